@@ -1,0 +1,90 @@
+-- What a circuit means: assignments that fit it, runs, and the goals that they show.
+use Rattle.std.specs.Prelude.{ℕ, ◌+◌, ◌*◌, ◌<◌, ◌≤◌, ◌≡◌, Bool, true, false, ◌&&◌, List, [], ◌∷◌, map, length, get_or, All, Contains, IsTrue}
+use Rattle.aig_model.specs.Literal.{value_of, number}
+use Rattle.aig_model.specs.WellFormed.{latch_lits, next_lits, defined}
+use Rattle.aig_model.specs.declared.parts.Latch.{Latch}
+use Rattle.aig_model.specs.declared.parts.AndGate.{AndGate}
+use Rattle.aig_model.specs.declared.parts.Parts.{Parts}
+use Rattle.aig_model.specs.declared.parts.Reset.{Reset}
+use Rattle.aig_model.specs.declared.parts.Reset.TheVariants.{Zero, One, Free}
+
+-- an assignment is the list of the variables' values
+abbrev pub Assignment : Type 0
+Assignment = List Bool
+
+abbrev pub input_values : Parts → Assignment → List Bool
+input_values c a = map (value_of a) c.inputs
+
+abbrev pub latch_values : Parts → Assignment → List Bool
+latch_values c a = map (value_of a) (latch_lits c.latches)
+
+-- the state that an assignment hands on
+abbrev pub next_values : Parts → Assignment → List Bool
+next_values c a = map (value_of a) (next_lits c.latches)
+
+-- the left side is the conjunction of the two inputs
+abbrev pub IsConjunction : Assignment → AndGate → Type 0
+IsConjunction a g = value_of a g.lhs ≡ (value_of a g.left && value_of a g.right)
+
+-- The assignment solves the circuit's equations. Nothing defines variable 0, so it is false.
+pub record Fits (c : Parts) (a : Assignment) : Type 0 where
+  pub size : length a ≡ c.top + 1
+  pub undefined : (v : ℕ) → ¬ Contains (defined c) v → get_or a v false ≡ false
+  pub gates : All (IsConjunction a) c.gates
+
+-- every constraint is true
+abbrev pub IsLegal : Parts → Assignment → Type 0
+IsLegal c a = All (λ lit. IsTrue (value_of a lit)) c.constraints
+
+-- the assignment that fits this state and this row of inputs
+pub record IsStep (c : Parts) (s r : List Bool) (a : Assignment) : Type 0 where
+  pub fits : Fits c a
+  pub state : latch_values c a ≡ s
+  pub row : input_values c a ≡ r
+
+-- the number whose digit k, of weight 2 ^ k, is the value of signal k
+abbrev pub goal_of : List ℕ → Assignment → ℕ
+goal_of [] a = 0
+goal_of (lit ∷ lits) a = number (value_of a lit) + 2 * goal_of lits a
+
+-- ---- resets
+abbrev pub Agrees : Reset → Bool → Type 0
+Agrees Zero value = value ≡ false
+Agrees One value = value ≡ true
+Agrees Free value = Unit {0}
+
+pub record IsReset (c : Parts) (state : List Bool) : Type 0 where
+  pub size : length state ≡ length c.latches
+  pub agrees : (k : ℕ) (l : Latch) → k < length c.latches → Agrees ((get_or c.latches k l).reset) (get_or state k false)
+
+-- ---- runs
+-- each assignment fits, and its latches hold what the one before hands on
+pub record Path (c : Parts) (state : List Bool) (frames : List Assignment) : Type 0 where
+  pub fits : All (Fits c) frames
+  pub start : 0 < length frames → latch_values c (get_or frames 0 []) ≡ state
+  pub next : (t : ℕ) → t + 1 < length frames → latch_values c (get_or frames (t + 1) []) ≡ next_values c (get_or frames t [])
+
+-- a path of at least one assignment, each of them legal
+pub record Run (c : Parts) (state : List Bool) (frames : List Assignment) : Type 0 where
+  pub some : 0 < length frames
+  pub path : Path c state frames
+  pub legal : All (IsLegal c) frames
+
+-- a run of t + 1 assignments from this state, of which the last shows the goal
+pub record At (c : Parts) (sig : List ℕ) (state : List Bool) (t goal : ℕ) : Type 0 where
+  pub frames : List Assignment
+  pub size : length frames ≡ t + 1
+  pub run : Run c state frames
+  pub shows : goal_of sig (get_or frames t []) ≡ goal
+
+-- the goal is reached within so many steps from reset
+pub record Within (c : Parts) (sig : List ℕ) (depth goal : ℕ) : Type 0 where
+  pub state : List Bool
+  pub reset : IsReset c state
+  pub t : ℕ
+  pub near : t ≤ depth
+  pub at : At c sig state t goal
+
+pub record Reachable (c : Parts) (sig : List ℕ) (goal : ℕ) : Type 0 where
+  pub depth : ℕ
+  pub within : Within c sig depth goal

@@ -1,0 +1,76 @@
+//! Circuits that are well formed.
+
+ghost use Rattle.std.specs.Prelude.{◌≡◌};
+ghost use Rattle.aig_model.specs.WellFormed.{IsCircuit};
+
+use crate::parts::{Gates, Latches, Lits, Names, Parts};
+use std::marker::Model;
+
+/// A well-formed circuit, whose gates stand in an order in which no gate uses its own or a later left side.
+#[derive(Debug, Drop)]
+pub struct Circuit {
+    parts: Parts,
+}
+
+impl Model for Circuit {
+    ghost use Rattle.aig_model.specs.declared.parts.Parts.{Parts};
+    ghost use Rattle.aig_model.specs.WellFormed.{IsCircuit};
+
+    ghost Value = { Parts };
+
+    ghost view = { λ c. c.parts };
+
+    ghost invariant = { λ c. IsCircuit c.parts };
+}
+
+impl Circuit {
+    /// The greatest variable.
+    pub fn top(&self) -> u32
+        ensures value { result ≡ self.now.top }
+        ensures well_formed { IsCircuit self.now }
+    {
+        self.parts.top
+    }
+
+    pub fn inputs(&self) -> &Lits
+        ensures { result.now ≡ self.now.inputs }
+    {
+        &self.parts.inputs
+    }
+
+    pub fn latches(&self) -> &Latches
+        ensures { result.now ≡ self.now.latches }
+    {
+        &self.parts.latches
+    }
+
+    pub fn outputs(&self) -> &Lits
+        ensures { result.now ≡ self.now.outputs }
+    {
+        &self.parts.outputs
+    }
+
+    pub fn bads(&self) -> &Lits
+        ensures { result.now ≡ self.now.bads }
+    {
+        &self.parts.bads
+    }
+
+    pub fn constraints(&self) -> &Lits
+        ensures { result.now ≡ self.now.constraints }
+    {
+        &self.parts.constraints
+    }
+
+    pub fn gates(&self) -> &Gates
+        ensures { result.now ≡ self.now.gates }
+    {
+        &self.parts.gates
+    }
+
+    pub fn names(&self) -> &Names
+        ensures { result.now ≡ self.now.names }
+    {
+        &self.parts.names
+    }
+}
