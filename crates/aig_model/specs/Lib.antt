@@ -1,4 +1,8 @@
+pub mod Faults
+pub mod Goals
+pub mod Laws
 pub mod Literal
+pub mod Marks
 pub mod Meaning
 pub mod Packed
 pub mod Replays

@@ -1,5 +1,6 @@
 -- What a circuit means: assignments that fit it, runs, and the goals that they show.
-use Rattle.std.specs.Prelude.{ℕ, ◌+◌, ◌*◌, ◌<◌, ◌≤◌, ◌≡◌, Bool, true, false, ◌&&◌, List, [], ◌∷◌, map, length, get_or, All, Contains, IsTrue}
+use Rattle.std.specs.Prelude.{ℕ, ◌+◌, ◌*◌, ◌^◌, ◌<◌, ◌≤◌, ◌≡◌, Bool, true, false, ◌&&◌, List, [], ◌∷◌, map, length, get_or, All, Contains, IsTrue}
+use Rattle.std.specs.Int.{bit_at}
 use Rattle.aig_model.specs.Literal.{value_of, number}
 use Rattle.aig_model.specs.WellFormed.{latch_lits, next_lits, defined}
 use Rattle.aig_model.specs.declared.parts.Latch.{Latch}
@@ -12,9 +13,11 @@ use Rattle.aig_model.specs.declared.parts.Reset.TheVariants.{Zero, One, Free}
 abbrev pub Assignment : Type 0
 Assignment = List Bool
 
+-- the values of the inputs, in their order
 abbrev pub input_values : Parts → Assignment → List Bool
 input_values c a = map (value_of a) c.inputs
 
+-- the state: the values of the latches, in their order
 abbrev pub latch_values : Parts → Assignment → List Bool
 latch_values c a = map (value_of a) (latch_lits c.latches)
 
@@ -26,9 +29,10 @@ next_values c a = map (value_of a) (next_lits c.latches)
 abbrev pub IsConjunction : Assignment → AndGate → Type 0
 IsConjunction a g = value_of a g.lhs ≡ (value_of a g.left && value_of a g.right)
 
--- The assignment solves the circuit's equations. Nothing defines variable 0, so it is false.
+-- The assignment solves the circuit's equations; variable 0 and each variable that nothing defines are false.
 pub record Fits (c : Parts) (a : Assignment) : Type 0 where
   pub size : length a ≡ c.top + 1
+  pub constant : get_or a 0 false ≡ false
   pub undefined : (v : ℕ) → ¬ Contains (defined c) v → get_or a v false ≡ false
   pub gates : All (IsConjunction a) c.gates
 
@@ -47,18 +51,25 @@ abbrev pub goal_of : List ℕ → Assignment → ℕ
 goal_of [] a = 0
 goal_of (lit ∷ lits) a = number (value_of a lit) + 2 * goal_of lits a
 
+-- The assignment shows the goal: a number below 2 ^ the number of signals, whose binary digit k is the value of signal k.
+pub record GoalOf (sig : List ℕ) (a : Assignment) (goal : ℕ) : Type 0 where
+  pub below : goal < 2 ^ length sig
+  pub digits : (k : ℕ) → k < length sig → bit_at goal k ≡ number (value_of a (get_or sig k 0))
+
 -- ---- resets
+-- a value with which a latch may start
 abbrev pub Agrees : Reset → Bool → Type 0
 Agrees Zero value = value ≡ false
 Agrees One value = value ≡ true
 Agrees Free value = Unit {0}
 
+-- a state with which the circuit may start
 pub record IsReset (c : Parts) (state : List Bool) : Type 0 where
   pub size : length state ≡ length c.latches
   pub agrees : (k : ℕ) (l : Latch) → k < length c.latches → Agrees ((get_or c.latches k l).reset) (get_or state k false)
 
 -- ---- runs
--- each assignment fits, and its latches hold what the one before hands on
+-- Each assignment fits, and its latches hold what the one before hands on. (No assignments are a path from every state.)
 pub record Path (c : Parts) (state : List Bool) (frames : List Assignment) : Type 0 where
   pub fits : All (Fits c) frames
   pub start : 0 < length frames → latch_values c (get_or frames 0 []) ≡ state
@@ -85,6 +96,7 @@ pub record Within (c : Parts) (sig : List ℕ) (depth goal : ℕ) : Type 0 where
   pub near : t ≤ depth
   pub at : At c sig state t goal
 
+-- the goal is reached from reset, however late
 pub record Reachable (c : Parts) (sig : List ℕ) (goal : ℕ) : Type 0 where
   pub depth : ℕ
   pub within : Within c sig depth goal

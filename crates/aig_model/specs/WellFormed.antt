@@ -22,11 +22,15 @@ left_sides gates = map (λ (g : AndGate). g.lhs) gates
 abbrev pub gate_inputs : List AndGate → List ℕ
 gate_inputs gates = flat_map (λ (g : AndGate). g.left ∷ g.right ∷ []) gates
 
+abbrev pub latch_literals : List Latch → List ℕ
+latch_literals latches = flat_map (λ (l : Latch). l.lit ∷ l.next ∷ []) latches
+
+abbrev pub gate_literals : List AndGate → List ℕ
+gate_literals gates = flat_map (λ (g : AndGate). g.lhs ∷ g.left ∷ g.right ∷ []) gates
+
 -- every literal
 abbrev pub literals : Parts → List ℕ
-literals c =
-    c.inputs ++ (flat_map (λ (l : Latch). l.lit ∷ l.next ∷ []) c.latches ++ (c.outputs ++ (c.bads ++ (c.constraints
-    ++ flat_map (λ (g : AndGate). g.lhs ∷ g.left ∷ g.right ∷ []) c.gates))))
+literals c = c.inputs ++ (latch_literals c.latches ++ (c.outputs ++ (c.bads ++ (c.constraints ++ gate_literals c.gates))))
 
 -- the literals that define a variable
 abbrev pub definers : Parts → List ℕ
@@ -40,9 +44,11 @@ abbrev pub defined : Parts → List ℕ
 defined c = map var (definers c)
 
 -- ---- what is asked of them
+-- the greatest variable, and the greatest number of items in a section
 abbrev pub limit : ℕ
 limit = 3999999
 
+-- no section has too many items; names are bounded by the sections
 pub record IsSized (c : Parts) : Type 0 where
   pub top : c.top ≤ limit
   pub inputs : length c.inputs ≤ limit
@@ -52,6 +58,7 @@ pub record IsSized (c : Parts) : Type 0 where
   pub constraints : length c.constraints ≤ limit
   pub gates : length c.gates ≤ limit
 
+-- a literal of one of the variables 0 to the greatest
 abbrev pub IsInRange : ℕ → ℕ → Type 0
 IsInRange top lit = lit ≤ 2 * top + 1
 
@@ -71,6 +78,7 @@ IsOrdered (g ∷ gates) =
     (¬ Contains (map var (left_sides (g ∷ gates))) (var g.left)) × (¬ Contains (map var (left_sides (g ∷ gates))) (var g.right)) × IsOrdered gates
 
 -- ---- names
+-- the section has an item at this place
 abbrev pub Exists : Parts → Place → Type 0
 Exists c (places.Input k) = k < length c.inputs
 Exists c (places.Latch k) = k < length c.latches
@@ -84,12 +92,14 @@ pub record IsName (name : List ℕ) : Type 0 where
   pub one_line : ¬ Contains name 10
   pub end : (k : ℕ) → k + 1 ≡ length name → get_or name k 0 ≢ 13
 
+-- each name belongs to a place that exists, no place has two, and each has a name's form
 pub record AreNames (c : Parts) : Type 0 where
   pub exist : All (λ (n : Named). Exists c n.place) c.names
   pub once : AllPairs (λ (m n : Named). m.place ≢ n.place) c.names
   pub forms : All (λ (n : Named). IsName n.name) c.names
 
 -- ---- the whole
+-- a well-formed circuit
 pub record IsCircuit (c : Parts) : Type 0 where
   pub sized : IsSized c
   pub in_range : All (IsInRange c.top) (literals c)

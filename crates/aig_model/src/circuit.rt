@@ -1,9 +1,13 @@
 //! Circuits that are well formed.
 
-ghost use Rattle.std.specs.Prelude.{◌≡◌};
-ghost use Rattle.aig_model.specs.WellFormed.{IsCircuit};
+ghost use Rattle.std.specs.Prelude.{◌≡◌, ℕ, IfOk};
+ghost use Rattle.aig_model.specs.WellFormed.{IsSized, AreNames, IsCircuit};
+ghost use Rattle.aig_model.specs.Faults.{OkExactly, ErrExactly, IsRangeFault, IsDefinedFault, IsUndefinedFault, IsOrderFault};
 
+use crate::build::check;
+use crate::fault::BuildFault;
 use crate::parts::{Gates, Latches, Lits, Names, Parts};
+use std::alloc::Global;
 use std::marker::Model;
 
 /// A well-formed circuit, whose gates stand in an order in which no gate uses its own or a later left side.
@@ -24,6 +28,21 @@ impl Model for Circuit {
 }
 
 impl Circuit {
+    /// Takes a bit or two for each variable while it looks.
+    pub fn build(alloc: Global, parts: Parts) -> Result<Circuit, BuildFault>
+        requires sized { IsSized parts }
+        requires names { AreNames parts }
+        ensures value { IfOk result (λ circuit. circuit ≡ parts) }
+        ensures ok { OkExactly result (IsCircuit parts) }
+        ensures range { (lit : ℕ) → ErrExactly result (BuildFault.Range lit) (IsRangeFault parts lit) }
+        ensures defined { (lit : ℕ) → ErrExactly result (BuildFault.Defined lit) (IsDefinedFault parts lit) }
+        ensures undefined { (lit : ℕ) → ErrExactly result (BuildFault.Undefined lit) (IsUndefinedFault parts lit) }
+        ensures order { (gate : ℕ) → ErrExactly result (BuildFault.Order gate) (IsOrderFault parts gate) }
+    {
+        check(alloc, &parts)?;
+        Ok(Circuit { parts })
+    }
+
     /// The greatest variable.
     pub fn top(&self) -> u32
         ensures value { result ≡ self.now.top }

@@ -2,15 +2,30 @@
 #![tactic(auto)]
 
 mod bits;
+mod build;
 mod circuit;
+mod definers;
+mod fault;
+mod goals;
+mod latch_clause;
+mod laws;
 mod lit;
+mod order;
 mod parts;
+mod range;
 mod rows;
 mod signals;
+#[cfg(test)]
+mod tests;
 mod trace;
+mod uses;
 
 pub use bits::Bits;
 pub use circuit::Circuit;
+pub use fault::BuildFault;
+pub use goals::Goals;
+pub use latch_clause::{LatchClause, LatchClauses};
+pub use laws::{one_assignment, one_goal};
 pub use lit::Lit;
 pub use parts::{
     AndGate, Gates, Kind, Latch, Latches, Lits, Name, Named, Names, Parts, Place, Reset,

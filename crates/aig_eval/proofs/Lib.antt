@@ -1,0 +1,7 @@
+pub mod Filling
+pub mod Goals
+pub mod Lists
+pub mod Paths
+pub mod Replays
+pub mod Runs
+pub mod Sections

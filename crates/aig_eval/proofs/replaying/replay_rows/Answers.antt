@@ -1,0 +1,34 @@
+use Rattle.std.proofs.Common.{◌≡◌, true, false, List, Bool, arith, subst, refl, ◌∙◌, ◌-◌}
+use Rattle.std.proofs.lemmas.List.{take_all}
+use Rattle.aig_model.specs.Meaning.{IsStep, IsLegal}
+use Rattle.aig_eval.proofs.Replays.{found_none, found_more, found_fails}
+use Rattle.aig_eval.proofs.Paths.{length-state_after}
+use Rattle.aig_eval.proofs.replaying.replay_rows.Goals as goal
+
+pub loop-step-init : goal.loop-step-init
+loop-step-init c =
+    let start = c.args.trace.now.start in
+    let same : c.in_ok-state.state ≡ start = c.in_ok-state.ensures ∙ take_all (c.len.result - 0) start (omega arith) in
+    rw same (found_none c.args.circuit.now c.args.signals.now.lits c.args.trace.now 0)
+
+pub step_values-requires-clause-state : goal.step_values-requires-clause-state
+step_values-requires-clause-state c =
+    rw c.loop-step.invariant.state_is
+    (length-state_after c.args.circuit.now c.args.trace.now.start c.loop-step.invariant.frames c.requires.shape.start)
+
+pub returns-then-not-is_legal : goal.returns-then-not-is_legal
+returns-then-not-is_legal c =
+    let P = λ (row : List Bool). IsStep c.args.circuit.now c.loop-step.state row c.in_ok-values.values in
+    let step = subst P c.in_ok-row.ensures.row c.in_ok-values.ensures in
+    found_fails c.args.circuit.now c.args.signals.now.lits c.args.trace.now c.loop-step.step c.loop-step.state c.loop-step.goal c.in_ok-values.values
+    c.top-top.ensures.well_formed c.loop-step.invariant (omega arith) step
+    (λ legal. let wrong : false ≡ true = c.if-not-is_legal.ensures.1 legal in cc)
+
+pub loop-step-preserved : goal.loop-step-preserved
+loop-step-preserved c =
+    let P = λ (row : List Bool). IsStep c.args.circuit.now c.loop-step.state row c.in_ok-values.values in
+    let step = subst P c.in_ok-row.ensures.row c.in_ok-values.ensures in
+    let legal : IsLegal c.args.circuit.now c.in_ok-values.values = c.if-not-is_legal.ensures.0 refl in
+    rw (c.in_ok-state-2.ensures, c.goal_of-goal.ensures)
+    (found_more c.args.circuit.now c.args.signals.now.lits c.args.trace.now c.loop-step.step c.loop-step.state c.loop-step.goal c.in_ok-values.values
+    c.loop-step.invariant (omega arith) step legal)

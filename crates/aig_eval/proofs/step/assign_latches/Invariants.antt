@@ -1,0 +1,7 @@
+use Rattle.std.proofs.Common.{take}
+use Rattle.aig_model.specs.WellFormed.{latch_lits}
+use Rattle.aig_eval.specs.Filling.{Assigns}
+use Rattle.aig_eval.proofs.step.assign_latches.Given as goal
+
+abbrev pub invariant-loop-place : goal.invariant-loop-place
+invariant-loop-place l = Assigns (take l.place (latch_lits l.latches)) (take l.place l.bits) l.initial.values l.values

@@ -1,0 +1,10 @@
+pub mod Building
+pub mod Elements
+pub mod FaultLaws
+pub mod GateOrder
+pub mod Marks
+pub mod OneAssignment
+pub mod OneGoal
+pub mod Packed
+pub mod Rightness
+pub mod Tables

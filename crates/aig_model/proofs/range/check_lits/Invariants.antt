@@ -1,0 +1,6 @@
+use Rattle.std.proofs.Common.{◌≤◌, take}
+use Rattle.aig_model.specs.Faults.{AllRight}
+use Rattle.aig_model.proofs.range.check_lits.Given as goal
+
+abbrev pub invariant-loop-lit : goal.invariant-loop-lit
+invariant-loop-lit l = AllRight (λ _ lit. lit ≤ l.most) (take l.lit-index l.lits)
