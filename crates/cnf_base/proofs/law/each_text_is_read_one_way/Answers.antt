@@ -1,0 +1,14 @@
+use Rattle.cnf_base.proofs.Whole.{some-answer, one-formula, one-fault, not-both}
+use Rattle.cnf_base.proofs.law.each_text_is_read_one_way.Goals as goal
+
+pub returns-clause-some : goal.returns-clause-some
+returns-clause-some c = some-answer
+
+pub returns-clause-one_formula : goal.returns-clause-one_formula
+returns-clause-one_formula c = one-formula
+
+pub returns-clause-one_fault : goal.returns-clause-one_fault
+returns-clause-one_fault c = one-fault
+
+pub returns-clause-not_both : goal.returns-clause-not_both
+returns-clause-not_both c = not-both

@@ -1,0 +1,32 @@
+-- Formulas in conjunctive normal form, and what their truth is.
+-- A literal is an integer that isn't 0: a variable, or its negation. The definitions read 0 as true.
+use Rattle.std.specs.Prelude.{◌≡◌, ℕ, zero, suc, ◌≤◌, Bool, true, false, not, ◌||◌, ℤ, pos, negsuc, nat_abs, List, [], ◌∷◌, All}
+
+-- a number of variables, and clauses over the variables 1 up to it
+pub record CnfFormula : Type 0 where
+  pub vars : ℕ
+  pub clauses : List (List ℤ)
+
+-- a literal's value, where variable x has the value v x
+abbrev pub lit_true : (ℕ → Bool) → ℤ → Bool
+lit_true v (pos zero) = true
+lit_true v (pos (suc n)) = v (suc n)
+lit_true v (negsuc n) = not (v (suc n))
+
+-- a clause's value: whether one of its literals is true
+abbrev pub clause_true : (ℕ → Bool) → List ℤ → Bool
+clause_true v [] = false
+clause_true v (l ∷ ls) = lit_true v l || clause_true v ls
+
+-- every clause is true
+abbrev pub Satisfies : (ℕ → Bool) → List (List ℤ) → Type 0
+Satisfies v [] = Unit {0}
+Satisfies v (c ∷ cs) = (clause_true v c ≡ true) × Satisfies v cs
+
+-- no values of the variables make every clause true
+abbrev pub HasNoModel : List (List ℤ) → Type 0
+HasNoModel cs = (v : ℕ → Bool) → Satisfies v cs → ⊥
+
+-- each literal is one of a variable up to n
+abbrev pub IsWithin : ℕ → List ℤ → Type 0
+IsWithin n c = All (λ l. nat_abs l ≤ n) c

@@ -1,0 +1,17 @@
+pub mod Agreeing
+pub mod Answering
+pub mod Blank
+pub mod Counting
+pub mod Finding
+pub mod Growing
+pub mod Judging
+pub mod Keying
+pub mod Literals
+pub mod Negating
+pub mod Numbering
+pub mod Refuting
+pub mod Signing
+pub mod Spending
+pub mod StepKinds
+pub mod Storing
+pub mod Taking

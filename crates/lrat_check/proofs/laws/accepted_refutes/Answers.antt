@@ -1,0 +1,5 @@
+use Rattle.lrat_check.proofs.Refuting.{accepted_refutes}
+use Rattle.lrat_check.proofs.laws.accepted_refutes.Goals as goal
+
+pub returns : goal.returns
+returns c = accepted_refutes

@@ -1,0 +1,69 @@
+-- When a proof is accepted: the rule of LRAT without its RAT steps.
+use Rattle.std.specs.Prelude.{◌≡◌, ◌≢◌, ℕ, ◌<◌, IsTrue, IsFalse, ℤ, pos, negsuc, neg_ℤ, List, [], ◌∷◌, ◌++◌, map, Some, IsSome, ◌⊎◌}
+use Rattle.cnf_base.specs.Judged.{has}
+use Rattle.cnf_base.specs.Meaning.{CnfFormula}
+use Rattle.lrat_text.specs.declared.proof.LratStep.{LratStep}
+use Rattle.lrat_text.specs.declared.proof.LratStep.TheVariants.{Add, Delete}
+use Rattle.lrat_check.specs.Standing.{Standing, start, clause_at, without, after}
+
+-- a literal is false where its negation is assumed and it is not
+abbrev pub IsFalseIn : List ℤ → ℤ → Type 0
+IsFalseIn assumed l = IsFalse (has assumed l) × IsTrue (has assumed (neg_ℤ l))
+
+-- a literal is open where neither it nor its negation is assumed
+abbrev pub IsOpenIn : List ℤ → ℤ → Type 0
+IsOpenIn assumed l = IsFalse (has assumed l) × IsFalse (has assumed (neg_ℤ l))
+
+-- a literal of the clause is assumed
+abbrev pub IsPassedIn : List ℤ → List ℤ → Type 0
+IsPassedIn assumed clause = (l : ℤ) × IsTrue (has clause l) × IsTrue (has assumed l)
+
+-- all literals of the clause are false
+abbrev pub IsRefutedIn : List ℤ → List ℤ → Type 0
+IsRefutedIn assumed clause = (l : ℤ) → IsTrue (has clause l) → IsFalseIn assumed l
+
+-- the literal is the one of the clause that is open, and all others are false
+pub record IsUnitIn (assumed clause : List ℤ) (l : ℤ) : Type 0 where
+  pub inside : IsTrue (has clause l)
+  pub open_here : IsOpenIn assumed l
+  pub others : (m : ℤ) → IsTrue (has clause m) → m ≢ l → IsFalseIn assumed m
+
+-- the hints, taken in order, end at a clause that is false: a clause with a true literal is passed over, and one with
+-- a single open literal and all others false adds this literal to what is assumed
+abbrev pub Ends : List (ℕ × List ℤ) → List ℤ → List ℤ → Type 0
+Ends live assumed [] = ⊥
+Ends live assumed (pos id ∷ hints) =
+    (clause : List ℤ) × (clause_at live id ≡ Some clause)
+    × ((IsPassedIn assumed clause × Ends live assumed hints)
+    ⊎ (IsRefutedIn assumed clause
+    ⊎ ((l : ℤ) × IsUnitIn assumed clause l × Ends live (assumed ++ l ∷ []) hints)))
+Ends live assumed (negsuc n ∷ hints) = ⊥
+
+abbrev pub IsBothWays : List ℤ → Type 0
+IsBothWays lits = (l : ℤ) × IsTrue (has lits l) × IsTrue (has lits (neg_ℤ l))
+
+-- an addition may be made: its id is new, and its clause has a literal both ways or follows by its hints
+pub record MayAdd (s : Standing) (id : ℕ) (lits hints : List ℤ) : Type 0 where
+  pub newer : s.greatest < id
+  pub follows : IsBothWays lits ⊎ Ends s.live (map neg_ℤ lits) hints
+
+-- a deletion may be made: each id in turn names a live clause, which is then gone
+abbrev pub MayDelete : List (ℕ × List ℤ) → List ℕ → Type 0
+MayDelete live [] = Unit {0}
+MayDelete live (id ∷ ids) = IsSome (clause_at live id) × MayDelete (without live id) ids
+
+abbrev pub MayStep : Standing → LratStep → Type 0
+MayStep s (Add id lits hints) = MayAdd s id lits hints
+MayStep s (Delete at ids) = MayDelete s.live ids
+
+abbrev pub AddsEmpty : LratStep → Type 0
+AddsEmpty (Add id lits hints) = lits ≡ []
+AddsEmpty (Delete at ids) = ⊥
+
+-- the steps may be made up to one that adds the empty clause
+abbrev pub AcceptedFrom : Standing → List LratStep → Type 0
+AcceptedFrom s [] = ⊥
+AcceptedFrom s (step ∷ steps) = MayStep s step × (AddsEmpty step ⊎ AcceptedFrom (after s step) steps)
+
+abbrev pub Accepted : CnfFormula → List LratStep → Type 0
+Accepted formula proof = AcceptedFrom (start formula) proof

@@ -1,0 +1,32 @@
+-- How a proof is written.
+use Rattle.std.specs.Prelude.{ℕ, ℤ, codes, List, ◌++◌}
+use Rattle.std.specs.List.{flat_map, AllByRecursion}
+use Rattle.std.specs.Fmt.{decimal, signed_decimal}
+use Rattle.lrat_text.specs.Lrat.{IsId, IsHint, IsLiteral}
+use Rattle.lrat_text.specs.declared.proof.LratStep.{LratStep}
+use Rattle.lrat_text.specs.declared.proof.LratStep.TheVariants.{Add, Delete}
+
+abbrev pub number_text : ℤ → List ℕ
+number_text z = signed_decimal z ++ codes " "
+
+abbrev pub id_text : ℕ → List ℕ
+id_text n = decimal n ++ codes " "
+
+-- one line for each step
+abbrev pub step_text : LratStep → List ℕ
+step_text (Add id lits hints) =
+    id_text id ++ flat_map number_text lits ++ codes "0 " ++ flat_map number_text hints ++ codes "0\n"
+step_text (Delete at_id ids) = id_text at_id ++ codes "d " ++ flat_map id_text ids ++ codes "0\n"
+
+abbrev pub proof_text : List LratStep → List ℕ
+proof_text proof = flat_map step_text proof
+
+-- the ids and hints of a step are those of the format
+abbrev pub HasIdsAndHints : LratStep → Type 0
+HasIdsAndHints (Add id lits hints) = IsId id × AllByRecursion IsHint hints
+HasIdsAndHints (Delete at_id ids) = IsId at_id × AllByRecursion IsId ids
+
+-- and so are its literals
+abbrev pub HasLiterals : LratStep → Type 0
+HasLiterals (Add id lits hints) = AllByRecursion IsLiteral lits
+HasLiterals (Delete at_id ids) = Unit {0}

@@ -1,0 +1,18 @@
+//! Proofs in the LRAT format, and their texts.
+#![tactic(auto)]
+
+mod fault;
+mod law;
+mod proof;
+mod reading;
+mod step;
+#[cfg(test)]
+mod tests;
+mod word;
+mod writing;
+
+pub use fault::{LratFault, LratKind};
+pub use law::each_text_is_read_one_way;
+pub use proof::{Hints, Ids, LratStep, Proof, Proofs};
+pub use reading::read_lrat;
+pub use writing::write_lrat;
