@@ -1,0 +1,15 @@
+pub mod Answer
+pub mod Blocks
+pub mod FirstForms
+pub mod FirstReading
+pub mod FirstVisits
+pub mod History
+pub mod Orders
+pub mod Posts
+pub mod Promises
+pub mod Report
+pub mod Steps
+pub mod Summed
+pub mod Text
+pub mod Walk
+pub mod Words

@@ -1,0 +1,141 @@
+//! The top call.
+
+ghost use Rattle.std.specs.Prelude.{◌≡◌, ◌≢◌, ◌↔◌, ℕ, List, IfOk, IfErr, false};
+ghost use Rattle.run_io.specs.Sink.{Grew, GrewByPrefix};
+ghost use Rattle.cover_run.specs.Words.{meaning, texts, Usage};
+ghost use Rattle.cover_run.specs.Orders.{command_of};
+ghost use Rattle.cover_run.specs.Answer.{IsAnswer, IsStopped, IsWhole, TookWhatItCould, Failed, is_late};
+ghost use Rattle.cover_run.specs.Promises.{Headline, Completeness, HasEnded, IsEarly, ReadFaultCause, BadCircuitCause, BadCircuitComes, BadSignalsCause, BadSignalsComes, LimitCause, WithinLimits, LongCircuitComes, LongSignalsComes, PrefixAfterFault, SaysLine};
+
+use crate::command::{Order, order_of};
+use crate::covering::{Output, cover};
+use crate::gate::Gate;
+use crate::stop::{Status, Stop, line_of, settled_status, status_of};
+use run_io::{Desk, Sink, write_all};
+use std::alloc::Global;
+use std::marker::Sync;
+use std::thread::Threads;
+
+/// Does what the words ask for: whether nothing is left open, or what stopped it.
+fn obey<D: Desk, O: Sink>(
+    alloc: Global,
+    order: &Order<'_>,
+    desk: &mut D,
+    out: &mut O,
+) -> Result<bool, Stop>
+    ensures text { (n : List ℕ) → D.text desk.new n ≡ D.text desk.old n }
+    ensures whole { IfOk result (IsWhole (command_of order.now)
+        (record { text = D.text desk.old; faults = D.faults desk.old; faults_after = D.faults desk.new; started = D.started desk.old; started_after = D.started desk.new; given = D.given desk.old; given_after = D.given desk.new })
+        (record { taken = O.taken out.old; taken_after = O.taken out.new; faults = O.faults out.old; faults_after = O.faults out.new; idle = O.idle out.old; idle_after = O.idle out.new })) }
+    ensures stopped { IfErr result (IsStopped (command_of order.now)
+        (record { text = D.text desk.old; faults = D.faults desk.old; faults_after = D.faults desk.new; started = D.started desk.old; started_after = D.started desk.new; given = D.given desk.old; given_after = D.given desk.new })
+        (record { taken = O.taken out.old; taken_after = O.taken out.new; faults = O.faults out.old; faults_after = O.faults out.new; idle = O.idle out.old; idle_after = O.idle out.new })) }
+    ensures early { IfErr result (λ stop. is_late stop ≡ false → out.new ≡ out.old) }
+    ensures not_called { command_of order.now ≡ Usage → desk.new ≡ desk.old }
+{
+    match order {
+        Order::Usage => Err(Stop::Usage),
+        Order::Cover(call) => {
+            let output = cover(alloc, desk, call)?;
+            match write_all(out, &output.bytes) {
+                Ok(()) => Ok(output.settled),
+                Err(_) => Err(Stop::CannotWrite),
+            }
+        }
+    }
+}
+
+/// Writes a line to the error stream. What the stream doesn't take is dropped.
+fn say<E: Sink>(err: &mut E, line: &[u8])
+    ensures { TookWhatItCould
+        (record { taken = E.taken err.old; taken_after = E.taken err.new; faults = E.faults err.old; faults_after = E.faults err.new; idle = E.idle err.old; idle_after = E.idle err.new }) line.now }
+{
+    match write_all(err, line) {
+        Ok(()) => (),
+        Err(_) => (),
+    }
+}
+
+/// The answer to the words, with its line said.
+fn answer<D: Desk, O: Sink, E: Sink>(
+    alloc: Global,
+    words: &[Vec<u8>],
+    desk: &mut D,
+    out: &mut O,
+    err: &mut E,
+) -> Status
+    ensures text { (n : List ℕ) → D.text desk.new n ≡ D.text desk.old n }
+    ensures answer { IsAnswer (meaning (texts words.now))
+        (record { text = D.text desk.old; faults = D.faults desk.old; faults_after = D.faults desk.new; started = D.started desk.old; started_after = D.started desk.new; given = D.given desk.old; given_after = D.given desk.new })
+        (record { taken = O.taken out.old; taken_after = O.taken out.new; faults = O.faults out.old; faults_after = O.faults out.new; idle = O.idle out.old; idle_after = O.idle out.new })
+        (record { taken = E.taken err.old; taken_after = E.taken err.new; faults = E.faults err.old; faults_after = E.faults err.new; idle = E.idle err.old; idle_after = E.idle err.new }) result }
+    ensures not_called { meaning (texts words.now) ≡ Usage → desk.new ≡ desk.old }
+    ensures early { IsEarly result → out.new ≡ out.old }
+    ensures quiet { HasEnded result → err.new ≡ err.old }
+{
+    let order = order_of(words);
+    match obey(alloc, &order, desk, out) {
+        Ok(settled) => settled_status(settled),
+        Err(stop) => {
+            say(err, line_of(stop));
+            status_of(stop)
+        }
+    }
+}
+
+/// Does what the words ask for, over files and streams.
+///
+/// Nobody calls the gate yet, and one thread does all the work.
+pub fn run<R: Threads + Sync, D: Desk, O: Sink, E: Sink, G: Gate>(
+    _rt: &R,
+    alloc: Global,
+    words: &[Vec<u8>],
+    desk: &mut D,
+    out: &mut O,
+    err: &mut E,
+    _gate: &G,
+) -> Status
+    ensures headline { Headline (meaning (texts words.now))
+        (record { text = D.text desk.old; faults = D.faults desk.old; faults_after = D.faults desk.new; started = D.started desk.old; started_after = D.started desk.new; given = D.given desk.old; given_after = D.given desk.new })
+        (record { taken = O.taken out.old; taken_after = O.taken out.new; faults = O.faults out.old; faults_after = O.faults out.new; idle = O.idle out.old; idle_after = O.idle out.new }) result }
+    ensures completeness { Completeness (meaning (texts words.now))
+        (record { text = D.text desk.old; faults = D.faults desk.old; faults_after = D.faults desk.new; started = D.started desk.old; started_after = D.started desk.new; given = D.given desk.old; given_after = D.given desk.new })
+        (record { taken = O.taken out.old; taken_after = O.taken out.new; faults = O.faults out.old; faults_after = O.faults out.new; idle = O.idle out.old; idle_after = O.idle out.new }) result }
+
+    ensures usage { (result ≡ Status.Usage) ↔ (meaning (texts words.now) ≡ Usage) }
+    ensures not_called { result ≡ Status.Usage → desk.new ≡ desk.old }
+    ensures read_fault { ReadFaultCause (meaning (texts words.now))
+        (record { text = D.text desk.old; faults = D.faults desk.old; faults_after = D.faults desk.new; started = D.started desk.old; started_after = D.started desk.new; given = D.given desk.old; given_after = D.given desk.new })
+        (record { taken = E.taken err.old; taken_after = E.taken err.new; faults = E.faults err.old; faults_after = E.faults err.new; idle = E.idle err.old; idle_after = E.idle err.new }) result }
+    ensures bad_circuit { BadCircuitCause (meaning (texts words.now))
+        (record { text = D.text desk.old; faults = D.faults desk.old; faults_after = D.faults desk.new; started = D.started desk.old; started_after = D.started desk.new; given = D.given desk.old; given_after = D.given desk.new }) result }
+    ensures bad_circuit_comes { BadCircuitComes (meaning (texts words.now))
+        (record { text = D.text desk.old; faults = D.faults desk.old; faults_after = D.faults desk.new; started = D.started desk.old; started_after = D.started desk.new; given = D.given desk.old; given_after = D.given desk.new }) result }
+    ensures bad_signals { BadSignalsCause (meaning (texts words.now))
+        (record { text = D.text desk.old; faults = D.faults desk.old; faults_after = D.faults desk.new; started = D.started desk.old; started_after = D.started desk.new; given = D.given desk.old; given_after = D.given desk.new }) result }
+    ensures bad_signals_comes { BadSignalsComes (meaning (texts words.now))
+        (record { text = D.text desk.old; faults = D.faults desk.old; faults_after = D.faults desk.new; started = D.started desk.old; started_after = D.started desk.new; given = D.given desk.old; given_after = D.given desk.new }) result }
+    ensures limit { LimitCause (meaning (texts words.now))
+        (record { text = D.text desk.old; faults = D.faults desk.old; faults_after = D.faults desk.new; started = D.started desk.old; started_after = D.started desk.new; given = D.given desk.old; given_after = D.given desk.new })
+        (record { taken = E.taken err.old; taken_after = E.taken err.new; faults = E.faults err.old; faults_after = E.faults err.new; idle = E.idle err.old; idle_after = E.idle err.new }) result }
+    ensures within_limits { WithinLimits (meaning (texts words.now))
+        (record { text = D.text desk.old; faults = D.faults desk.old; faults_after = D.faults desk.new; started = D.started desk.old; started_after = D.started desk.new; given = D.given desk.old; given_after = D.given desk.new }) result }
+    ensures long_circuit_comes { LongCircuitComes (meaning (texts words.now))
+        (record { text = D.text desk.old; faults = D.faults desk.old; faults_after = D.faults desk.new; started = D.started desk.old; started_after = D.started desk.new; given = D.given desk.old; given_after = D.given desk.new }) result }
+    ensures long_signals_comes { LongSignalsComes (meaning (texts words.now))
+        (record { text = D.text desk.old; faults = D.faults desk.old; faults_after = D.faults desk.new; started = D.started desk.old; started_after = D.started desk.new; given = D.given desk.old; given_after = D.given desk.new }) result }
+    ensures write_fault { result ≡ Status.WriteFault → Failed
+        (record { taken = O.taken out.old; taken_after = O.taken out.new; faults = O.faults out.old; faults_after = O.faults out.new; idle = O.idle out.old; idle_after = O.idle out.new }) }
+    ensures not_refused { result ≢ Status.Refused }
+
+    ensures untouched { IsEarly result → out.new ≡ out.old }
+    ensures prefix_after_fault { PrefixAfterFault (meaning (texts words.now))
+        (record { text = D.text desk.old; faults = D.faults desk.old; faults_after = D.faults desk.new; started = D.started desk.old; started_after = D.started desk.new; given = D.given desk.old; given_after = D.given desk.new })
+        (record { taken = O.taken out.old; taken_after = O.taken out.new; faults = O.faults out.old; faults_after = O.faults out.new; idle = O.idle out.old; idle_after = O.idle out.new }) result }
+    ensures line { SaysLine
+        (record { taken = E.taken err.old; taken_after = E.taken err.new; faults = E.faults err.old; faults_after = E.faults err.new; idle = E.idle err.old; idle_after = E.idle err.new }) result }
+    ensures quiet { HasEnded result → err.new ≡ err.old }
+    ensures texts_stay { (n : List ℕ) → D.text desk.new n ≡ D.text desk.old n }
+{
+    answer(alloc, words, desk, out, err)
+}
