@@ -1,0 +1,11 @@
+//! Worked rows: whole runs over devices in memory, tested as a user would see them.
+#![tactic(auto)]
+
+mod setting;
+
+pub use setting::{Outcome, Setting};
+
+#[cfg(test)]
+mod devices;
+#[cfg(test)]
+mod rows;

@@ -1,0 +1,122 @@
+//! What `cover` answers to small circuits, and to what it refuses.
+
+use crate::setting::Setting;
+use cover_run::Status;
+use std::test::Fail;
+
+const TOGGLE: &[u8] = b"aag 1 0 1 2 0\n2 3\n2\n3\n";
+
+const RING: &[u8] = b"aag 2 0 2 0 0\n2 4 1\n4 2\n";
+
+const TOGGLE_REPORT: &[u8] =
+    b"ketch 1\nsize 0 1 1\noptions 0 0 1000 100 4 1 20000 0 0 0\nhistory 2\n0 0 0 r zero 0\n1 0 1 r zero 1\nseeds 0\ninvs 0\ngoals 2\ngoal 0 reached 0\n1\nb0\n0\n\n.\ngoal 1 reached 1\n1\nb1\n0\n\n\n.\nspents 0\nrefutes 0\nend 2 0 0\n";
+
+const RING_REPORT: &[u8] =
+    b"ketch 1\nsize 0 2 2\noptions 0 0 1000 100 4 1 20000 0 0 0\nhistory 2\n0 0 1 r zero 0\n1 0 2 r zero 1\nseeds 0\ninvs 0\ngoals 4\ngoal 0 open depth none hops strength none\ngoal 1 reached 0\n1\nb1\n10\n\n.\ngoal 2 reached 1\n1\nb2\n10\n\n\n.\ngoal 3 open depth none hops strength none\nspents 0\nrefutes 0\nend 2 0 2\n";
+
+/// The free latch starts at 0 in the zero walk, so its other value is left open.
+const FREE_REPORT: &[u8] =
+    b"ketch 1\nsize 0 1 1\noptions 0 0 1000 100 4 1 20000 0 0 0\nhistory 1\n0 0 0 r zero 0\nseeds 0\ninvs 0\ngoals 2\ngoal 0 reached 0\n1\nb0\n0\n\n.\ngoal 1 open depth none hops strength none\nspents 0\nrefutes 0\nend 1 0 1\n";
+
+#[test]
+fn reports(rt: HostRuntime) -> Result<(), Fail> {
+    let rows: [(&str, &[u8], &[u8], Status, &[u8]); 3] = [
+        (
+            "the toggle",
+            TOGGLE,
+            b"l0\n",
+            Status::Settled,
+            TOGGLE_REPORT,
+        ),
+        ("the ring", RING, b"l0\nl1\n", Status::Open, RING_REPORT),
+        (
+            "a free reset",
+            b"aag 1 0 1 0 0\n2 2 2\n",
+            b"l0\n",
+            Status::Open,
+            FREE_REPORT,
+        ),
+    ];
+    for (name, circuit, signals, status, report) in rows {
+        let outcome = Setting::cover(circuit, signals).run(&rt, rt.alloc())?;
+        assert_eq!(rt; outcome.status, status, "{name}");
+        assert!(rt; outcome.out.as_slice() == report, "{name}");
+        assert!(rt; outcome.err.is_empty(), "{name}");
+    }
+    Ok(())
+}
+
+#[test]
+fn refusals(rt: HostRuntime) -> Result<(), Fail> {
+    let long = vec![in rt.alloc(); b'#'; 65537]?;
+    let rows: [(&str, &[u8], &[u8], Status, &[u8]); 5] = [
+        (
+            "no latch, input or output",
+            b"aag 0 0 0 0 0\n",
+            b"",
+            Status::BadSignals,
+            b"ketch: signals line 0: NotBuilt\n",
+        ),
+        (
+            "a signal that isn't there",
+            b"aag 0 0 0 0 0\n",
+            b"l0",
+            Status::BadSignals,
+            b"ketch: signals line 0: NotBuilt\n",
+        ),
+        (
+            "a fifth number that isn't 0",
+            b"aag 0 0 0 0 1\n",
+            b"l0\n",
+            Status::BadCircuit,
+            b"ketch: circuit at 0: NotBuilt\n",
+        ),
+        (
+            "no last newline",
+            b"aag 1 0 1 2 0\n2 3\n2\n3",
+            b"l0\n",
+            Status::BadCircuit,
+            b"ketch: circuit at 0: NotBuilt\n",
+        ),
+        (
+            "signals too long",
+            TOGGLE,
+            &long,
+            Status::Limit,
+            b"ketch: limit: signals\n",
+        ),
+    ];
+    for (name, circuit, signals, status, line) in rows {
+        let outcome = Setting::cover(circuit, signals).run(&rt, rt.alloc())?;
+        assert_eq!(rt; outcome.status, status, "{name}");
+        assert!(rt; outcome.out.is_empty(), "{name}");
+        assert!(rt; outcome.err.as_slice() == line, "{name}");
+    }
+    Ok(())
+}
+
+/// The desk isn't called: its first call would fail, and that would be another status.
+#[test]
+fn usage(rt: HostRuntime) -> Result<(), Fail> {
+    let rows: [&[&[u8]]; 6] = [
+        &[],
+        &[b"cover"],
+        &[b"cover", b"c"],
+        &[b"cover", b"c", b"-s"],
+        &[b"cover", b"c", b"s", b"t"],
+        &[b"hover", b"c", b"s"],
+    ];
+    for words in rows {
+        let mut setting = Setting::cover(TOGGLE, b"l0\n");
+        setting.words = words;
+        setting.desk_fails = Some(1);
+        let outcome = setting.run(&rt, rt.alloc())?;
+        assert_eq!(rt; outcome.status, Status::Usage);
+        assert!(rt; outcome.out.is_empty());
+        assert!(rt;
+            outcome.err.as_slice()
+                == b"ketch: usage: ketch cover|check|goals|replay|lrat|make ..\n".as_slice()
+        );
+    }
+    Ok(())
+}

@@ -1,0 +1,80 @@
+//! One run over devices in memory, and what it left.
+
+use cover_run::{OpenGate, Status, run};
+use ketch_base::OutOfMemory;
+use run_io::{FileText, MemoryDesk, MemorySink};
+use std::alloc::{AllocError, Global};
+use std::marker::Sync;
+use std::thread::Threads;
+
+/// The words of a run, its two files, and which calls of its devices fail, counted from 1.
+#[derive(Drop)]
+pub struct Setting<'a> {
+    pub words: &'a [&'a [u8]],
+    pub circuit: &'a [u8],
+    pub signals: &'a [u8],
+    pub desk_fails: Option<u64>,
+    pub sink_fails: Option<u64>,
+    /// How many bytes a write takes at most.
+    pub most: usize,
+}
+
+/// What a run answered and wrote.
+#[derive(Debug, Drop)]
+pub struct Outcome {
+    pub status: Status,
+    pub out: Vec<u8>,
+    pub err: Vec<u8>,
+}
+
+const ROOM: usize = 65536;
+
+fn listed(alloc: Global, call: Option<u64>) -> Result<Vec<u64>, AllocError> {
+    let mut calls = Vec::new(alloc);
+    if let Some(call) = call {
+        calls.push(call)?;
+    }
+    Ok(calls)
+}
+
+fn file(alloc: Global, name: &[u8], bytes: &[u8]) -> Result<FileText, AllocError> {
+    Ok(FileText {
+        name: name.to_vec(alloc)?,
+        bytes: bytes.to_vec(alloc)?,
+    })
+}
+
+impl<'a> Setting<'a> {
+    /// `cover c s` over these two files, with devices that don't fail.
+    pub fn cover(circuit: &'a [u8], signals: &'a [u8]) -> Setting<'a> {
+        Setting {
+            words: &[b"cover", b"c", b"s"],
+            circuit,
+            signals,
+            desk_fails: None,
+            sink_fails: None,
+            most: ROOM,
+        }
+    }
+
+    /// Runs over the files `c` and `s`.
+    pub fn run<R: Threads + Sync>(&self, rt: &R, alloc: Global) -> Result<Outcome, OutOfMemory> {
+        let files = vec![in alloc;
+            file(alloc, b"c", self.circuit)?,
+            file(alloc, b"s", self.signals)?,
+        ]?;
+        let mut desk = MemoryDesk::new(alloc, files, listed(alloc, self.desk_fails)?)?;
+        let mut out = MemorySink::new(alloc, ROOM, self.most, listed(alloc, self.sink_fails)?)?;
+        let mut err = MemorySink::new(alloc, ROOM, ROOM, Vec::new(alloc))?;
+        let mut words = Vec::new(alloc);
+        for word in self.words {
+            words.push(word.to_vec(alloc)?)?;
+        }
+        let status = run(rt, alloc, &words, &mut desk, &mut out, &mut err, &OpenGate);
+        Ok(Outcome {
+            status,
+            out: out.taken().to_vec(alloc)?,
+            err: err.taken().to_vec(alloc)?,
+        })
+    }
+}
