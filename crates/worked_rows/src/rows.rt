@@ -107,9 +107,14 @@ fn usage(rt: HostRuntime) -> Result<(), Fail> {
         &[b"hover", b"c", b"s"],
     ];
     for words in rows {
-        let mut setting = Setting::cover(TOGGLE, b"l0\n");
-        setting.words = words;
-        setting.desk_fails = Some(1);
+        let setting = Setting {
+            words,
+            circuit: TOGGLE,
+            signals: b"l0\n",
+            desk_fails: Some(1),
+            sink_fails: None,
+            most: 65_536,
+        };
         let outcome = setting.run(&rt, rt.alloc())?;
         assert_eq!(rt; outcome.status, Status::Usage);
         assert!(rt; outcome.out.is_empty());
