@@ -10,7 +10,7 @@ use Rattle.aig_model.specs.declared.parts.Reset.{Reset}
 use Rattle.aig_model.specs.declared.parts.Reset.TheVariants.{Zero, One, Free}
 use Rattle.aig_model.specs.declared.parts.Parts.{Parts}
 use Rattle.aig_model.specs.WellFormed.{IsCircuit, IsDefining, IsInRange, latch_lits, left_sides, definers, literals, limit}
-use Rattle.cover_run.specs.Text.{text}
+use Rattle.report_text.specs.Text.{text}
 use Rattle.cover_run.specs.FirstForms.{numbers_line, one_number, reset_number, IsLatchRow, AreLatchRows, circuit_lines, IsPlain, SpellsCircuit}
 use Rattle.cover_run.specs.FirstReading.{number_rows, first_number, input_rows, latch_rows, output_rows, reset_in, latch_in, latch_row, parts_in, IsSmall}
 use Rattle.cover_run.proofs.Spelled.{IsShort, IsShortRow, circuit_picked}

@@ -7,8 +7,8 @@ use Rattle.std.proofs.lemmas.List.Elements.{Contains-push_cases}
 use Rattle.std.proofs.lemmas.Option.{slice_get_within, slice_get-get_or, get_or_from_slice_get}
 use Rattle.aig_model.specs.declared.parts.Parts.{Parts}
 use Rattle.aig_model.specs.declared.trace.Trace.{Trace}
-use Rattle.cover_run.specs.declared.report.GoalBlock.{GoalBlock}
-use Rattle.cover_run.specs.declared.report.GoalBlock.TheVariants as blocks
+use Rattle.report_text.specs.declared.report.GoalBlock.{GoalBlock}
+use Rattle.report_text.specs.declared.report.GoalBlock.TheVariants as blocks
 use Rattle.cover_run.specs.declared.walk.Visit.{Visit}
 use Rattle.cover_run.specs.Walk.{goals_of, IsZeroTrace}
 use Rattle.cover_run.specs.Blocks.{open_block, IsBlockFrom, AreBlocksFrom}

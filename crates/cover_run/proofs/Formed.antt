@@ -10,16 +10,17 @@ use Rattle.aig_model.specs.WellFormed.{IsCircuit}
 use Rattle.aig_model.specs.SignalList.{IsSignals}
 use Rattle.aig_model.specs.declared.parts.Parts.{Parts}
 use Rattle.aig_model.specs.declared.parts.Latch.{Latch}
-use Rattle.cover_run.specs.declared.options.Options.{Options}
-use Rattle.cover_run.specs.declared.report.Entry.{Entry}
-use Rattle.cover_run.specs.declared.report.GoalBlock.{GoalBlock}
-use Rattle.cover_run.specs.declared.report.GoalBlock.TheVariants as blocks
-use Rattle.cover_run.specs.declared.report.Report.{Report}
+use Rattle.report_text.specs.declared.options.Options.{Options}
+use Rattle.report_text.specs.declared.report.Entry.{Entry}
+use Rattle.report_text.specs.declared.report.GoalBlock.{GoalBlock}
+use Rattle.report_text.specs.declared.report.GoalBlock.TheVariants as blocks
+use Rattle.report_text.specs.declared.report.Report.{Report}
 use Rattle.cover_run.specs.declared.walk.Visit.{Visit}
 use Rattle.cover_run.specs.Walk.{first_value, zero_row, AreZeroVisits}
 use Rattle.cover_run.specs.Posts.{posts_of}
 use Rattle.cover_run.specs.Blocks.{IsBlockFrom, AreBlocksFrom}
-use Rattle.cover_run.specs.Report.{FitsOptions, FitsEntry, FitsBlock, HasForm, is_reached, is_open}
+use Rattle.cover_run.specs.Report.{is_reached, is_open}
+use Rattle.report_text.specs.Form.{FitsOptions, FitsEntry, FitsBlock, HasForm}
 use Rattle.cover_run.specs.Summed.{Holds}
 use Rattle.cover_run.proofs.Visited.{visited_below, visits_few}
 use Rattle.cover_run.proofs.Posted.{post_at, length-posts, visit_inside}

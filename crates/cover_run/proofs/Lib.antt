@@ -1,16 +1,10 @@
 pub mod CircuitText
-pub mod Determines
 pub mod Filled
 pub mod Formed
 pub mod Full
-pub mod GoalLines
-pub mod HeadLines
-pub mod HistoryLines
-pub mod Lines
 pub mod Marked
 pub mod PickedParts
 pub mod Picking
-pub mod Pieces
 pub mod Posted
 pub mod Promised
 pub mod Shown
@@ -20,8 +14,5 @@ pub mod Told
 pub mod Visited
 pub mod Walked
 pub mod WhereTold
-pub mod WitnessLines
-pub mod Words
 pub mod Writing
-pub mod Written
 pub mod ZeroPaths

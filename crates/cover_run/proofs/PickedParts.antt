@@ -5,7 +5,7 @@ use Rattle.std.proofs.lemmas.List.{get_or_past, map-append}
 use Rattle.std.proofs.lemmas.List.Concat.{flat_map-append}
 use Rattle.aig_model.specs.declared.parts.Parts.{Parts}
 use Rattle.aig_model.specs.WellFormed.{limit, IsSized, AreNames}
-use Rattle.cover_run.specs.Text.{line, text}
+use Rattle.report_text.specs.Text.{line, text}
 use Rattle.cover_run.specs.FirstForms.{numbers_line, one_number, IsLatchRow, AreLatchRows, circuit_lines, IsPlain}
 use Rattle.cover_run.specs.FirstReading.{number_rows, reset_in, latch_rows, latch_in, latch_row, parts_in, header_line, IsSmall, IsTextOf}
 

@@ -8,8 +8,8 @@ use Rattle.std.proofs.lemmas.List.FromFn.{length-enumerate_from}
 use Rattle.std.proofs.lemmas.List.Elements.{All-get_or}
 use Rattle.std.proofs.lemmas.Option.{slice_get_within, slice_get-get_or, get_or_from_slice_get}
 use Rattle.aig_model.specs.declared.parts.Parts.{Parts}
-use Rattle.cover_run.specs.declared.options.Options.{Options}
-use Rattle.cover_run.specs.declared.report.Entry.{Entry}
+use Rattle.report_text.specs.declared.options.Options.{Options}
+use Rattle.report_text.specs.declared.report.Entry.{Entry}
 use Rattle.cover_run.specs.declared.walk.Visit.{Visit}
 use Rattle.cover_run.specs.Walk.{goals_of, IsFirstVisit, AreZeroVisits}
 use Rattle.cover_run.specs.History.{Found, IsLegal, IsInOrder, first_entry}

@@ -3,7 +3,7 @@ use Rattle.std.proofs.Common.{◌≡◌, ◌↔◌, ℕ, ◌<◌, ◌≤◌, Boo
 use Rattle.std.proofs.lemmas.Bool.Decides.{nat_tests}
 use Rattle.aig_model.specs.declared.parts.Parts.{Parts}
 use Rattle.run_io.specs.Count.{Rose}
-use Rattle.cover_run.specs.declared.report.GoalBlock.TheVariants as blocks
+use Rattle.report_text.specs.declared.report.GoalBlock.TheVariants as blocks
 use Rattle.cover_run.specs.declared.stop.File.{File}
 use Rattle.cover_run.specs.declared.stop.File.TheVariants as files
 use Rattle.cover_run.specs.declared.stop.Stop.{Stop}

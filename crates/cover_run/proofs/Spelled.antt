@@ -6,7 +6,7 @@ use Rattle.std.specs.List.{AllByRecursion}
 use Rattle.std.proofs.lemmas.Bool.Decides.{nat_tests}
 use Rattle.std.proofs.lemmas.Fmt.{decimal_by_steps}
 use Rattle.std.proofs.lemmas.List.{append-nil}
-use Rattle.cover_run.specs.Text.{line, text}
+use Rattle.report_text.specs.Text.{line, text}
 use Rattle.cover_run.specs.FirstForms.{numbers_line, latch_line, one_number}
 use Rattle.cover_run.specs.FirstReading.{rows_from, number_rows, with_digit}
 use Rattle.cover_run.proofs.Picking.{rows_from-digit, rows_from-newline, rows_from-other, rows_from-end}

@@ -4,11 +4,11 @@ use Rattle.std.specs.Prelude.{slice_get, count_by, option_map}
 use Rattle.std.proofs.lemmas.List.Sums.{sum_by-cons}
 use Rattle.std.proofs.lemmas.Option.{none-some}
 use Rattle.aig_model.specs.declared.parts.Parts.{Parts}
-use Rattle.cover_run.specs.declared.options.Options.{Options}
-use Rattle.cover_run.specs.declared.report.Entry.{Entry}
-use Rattle.cover_run.specs.declared.report.GoalBlock.{GoalBlock}
-use Rattle.cover_run.specs.declared.report.GoalBlock.TheVariants as blocks
-use Rattle.cover_run.specs.declared.report.Report.{Report}
+use Rattle.report_text.specs.declared.options.Options.{Options}
+use Rattle.report_text.specs.declared.report.Entry.{Entry}
+use Rattle.report_text.specs.declared.report.GoalBlock.{GoalBlock}
+use Rattle.report_text.specs.declared.report.GoalBlock.TheVariants as blocks
+use Rattle.report_text.specs.declared.report.Report.{Report}
 use Rattle.cover_run.specs.declared.walk.Visit.{Visit}
 use Rattle.cover_run.specs.Walk.{goals_of, IsVisited, AreZeroVisits}
 use Rattle.cover_run.specs.Posts.{post_of, posts_of}

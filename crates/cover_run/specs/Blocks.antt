@@ -2,8 +2,8 @@
 use Rattle.std.specs.Prelude.{◌≡◌, ℕ, List, [], length, slice_get, Contains, Some, None}
 use Rattle.aig_model.specs.declared.parts.Parts.{Parts}
 use Rattle.aig_model.specs.declared.trace.Trace.{Trace}
-use Rattle.cover_run.specs.declared.report.GoalBlock.{GoalBlock}
-use Rattle.cover_run.specs.declared.report.GoalBlock.TheVariants as blocks
+use Rattle.report_text.specs.declared.report.GoalBlock.{GoalBlock}
+use Rattle.report_text.specs.declared.report.GoalBlock.TheVariants as blocks
 use Rattle.cover_run.specs.declared.walk.Visit.{Visit}
 use Rattle.cover_run.specs.Walk.{IsZeroTrace, goals_of}
 use Rattle.cover_run.specs.Report.{IsUnbounded}

@@ -6,7 +6,7 @@ use Rattle.aig_model.specs.declared.parts.Reset.{Reset}
 use Rattle.aig_model.specs.declared.parts.Reset.TheVariants.{Zero, One, Free}
 use Rattle.aig_model.specs.SignalList.{IsSignals}
 use Rattle.aig_model.specs.WellFormed.{IsCircuit}
-use Rattle.cover_run.specs.Text.{Line, text}
+use Rattle.report_text.specs.Text.{Line, text}
 
 -- a line of numbers without leading zeros, one space between them
 abbrev pub numbers_line : List ℕ → Line

@@ -7,7 +7,7 @@ use Rattle.aig_model.specs.declared.parts.Reset.{Reset}
 use Rattle.aig_model.specs.declared.parts.Reset.TheVariants.{Zero, One, Free}
 use Rattle.aig_model.specs.declared.parts.Parts.{Parts}
 use Rattle.aig_model.specs.WellFormed.{limit, IsSized}
-use Rattle.cover_run.specs.Text.{Line, text}
+use Rattle.report_text.specs.Text.{Line, text}
 use Rattle.cover_run.specs.FirstForms.{numbers_line, reset_number, AreLatchRows, IsPlain, circuit_lines}
 
 -- ---- the numbers of a text

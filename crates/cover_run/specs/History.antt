@@ -3,10 +3,10 @@ use Rattle.std.specs.Prelude.{◌≡◌, ◌≢◌, ◌⊎◌, ℕ, ◌<◌, ◌
 use Rattle.aig_model.specs.declared.parts.Parts.{Parts}
 use Rattle.aig_model.specs.declared.parts.Kind.{Kind}
 use Rattle.aig_model.specs.declared.parts.Kind.TheVariants.{Reached}
-use Rattle.cover_run.specs.declared.options.Options.{Options}
-use Rattle.cover_run.specs.declared.report.Source.{Source}
-use Rattle.cover_run.specs.declared.report.Source.TheVariants.{Zero}
-use Rattle.cover_run.specs.declared.report.Entry.{Entry}
+use Rattle.report_text.specs.declared.options.Options.{Options}
+use Rattle.report_text.specs.declared.report.Source.{Source}
+use Rattle.report_text.specs.declared.report.Source.TheVariants.{Zero}
+use Rattle.report_text.specs.declared.report.Entry.{Entry}
 use Rattle.cover_run.specs.Walk.{IsVisited}
 
 -- what a source says of a goal: the zero walk visits it

@@ -10,6 +10,5 @@ pub mod Promises
 pub mod Report
 pub mod Steps
 pub mod Summed
-pub mod Text
 pub mod Walk
 pub mod Words

@@ -2,8 +2,8 @@
 use Rattle.std.specs.Prelude.{ℕ, List, map}
 use Rattle.std.specs.List.{enumerate_from}
 use Rattle.aig_model.specs.declared.parts.Kind.TheVariants.{Reached}
-use Rattle.cover_run.specs.declared.report.Source.TheVariants.{Zero}
-use Rattle.cover_run.specs.declared.report.Entry.{Entry}
+use Rattle.report_text.specs.declared.report.Source.TheVariants.{Zero}
+use Rattle.report_text.specs.declared.report.Entry.{Entry}
 use Rattle.cover_run.specs.declared.walk.Visit.{Visit}
 
 -- the entry of a visit, by a caller that has seen all entries before it

@@ -3,7 +3,7 @@ use Rattle.std.specs.Prelude.{◌≡◌, ◌⊎◌, ◌↔◌, ℕ, ◌<◌, ◌
 use Rattle.aig_model.specs.declared.parts.Parts.{Parts}
 use Rattle.run_io.specs.Count.{Rose}
 use Rattle.run_io.specs.Sink.{GrewByPrefix}
-use Rattle.cover_run.specs.declared.report.GoalBlock.{GoalBlock}
+use Rattle.report_text.specs.declared.report.GoalBlock.{GoalBlock}
 use Rattle.cover_run.specs.declared.stop.File.{File}
 use Rattle.cover_run.specs.declared.stop.File.TheVariants as files
 use Rattle.cover_run.specs.declared.stop.Stop.{Stop}

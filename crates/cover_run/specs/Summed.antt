@@ -1,10 +1,10 @@
 -- A report around its history and its blocks.
 use Rattle.std.specs.Prelude.{◌≡◌, ℕ, List, length, count_by}
 use Rattle.aig_model.specs.declared.parts.Parts.{Parts}
-use Rattle.cover_run.specs.declared.options.Options.{Options}
-use Rattle.cover_run.specs.declared.report.Entry.{Entry}
-use Rattle.cover_run.specs.declared.report.GoalBlock.{GoalBlock}
-use Rattle.cover_run.specs.declared.report.Report.{Report}
+use Rattle.report_text.specs.declared.options.Options.{Options}
+use Rattle.report_text.specs.declared.report.Entry.{Entry}
+use Rattle.report_text.specs.declared.report.GoalBlock.{GoalBlock}
+use Rattle.report_text.specs.declared.report.Report.{Report}
 use Rattle.cover_run.specs.Report.{is_reached, is_open}
 
 -- this history and these blocks, with the sizes, the options and the counts

@@ -1,7 +1,7 @@
 -- What the words on the command line mean.
 use Rattle.std.specs.Prelude.{ℕ, Bool, false, if◌then◌else◌, not, ◌&&◌, nat_eq, List, [], ◌∷◌, map, codes, bytes_eq}
 use Rattle.std.specs.Global.{Vec}
-use Rattle.cover_run.specs.declared.options.Options.{Options}
+use Rattle.report_text.specs.declared.options.Options.{Options}
 
 -- the files and options of `cover`
 pub record CoverCall : Type 0 where

@@ -4,7 +4,7 @@ ghost use Rattle.std.specs.Prelude.{◌≡◌};
 ghost use Rattle.cover_run.specs.Words.{meaning, texts, is_file_name};
 ghost use Rattle.cover_run.specs.Orders.{command_of};
 
-use crate::options::Options;
+use report_text::Options;
 
 const DEFAULTS: Options = Options {
     depth: 0,

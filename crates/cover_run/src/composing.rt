@@ -4,16 +4,16 @@ ghost use Rattle.std.specs.Prelude.{◌≡◌, ◌^◌, length, replicate, count
 ghost use Rattle.cover_run.specs.Walk.{AreZeroVisits};
 ghost use Rattle.cover_run.specs.Posts.{posts_of};
 ghost use Rattle.cover_run.specs.Blocks.{open_block, AreBlocksFrom};
-ghost use Rattle.cover_run.specs.Report.{FitsOptions, HasForm, Tells, is_reached};
+ghost use Rattle.cover_run.specs.Report.{Tells, is_reached};
+ghost use Rattle.report_text.specs.Form.{FitsOptions, HasForm};
 ghost use Rattle.cover_run.specs.Summed.{Holds};
 ghost use Rattle.aig_model.specs.SignalList.{IsSignals};
 ghost use Rattle.aig_model.specs.WellFormed.{IsCircuit};
 
-use crate::options::Options;
-use crate::report::{Entries, Entry, GoalBlock, GoalBlocks, HopBounds, Report, Source};
 use crate::walk::{Visits, zero_trace};
 use aig_model::{Circuit, Kind, Signals};
 use ketch_base::OutOfMemory;
+use report_text::{Entries, Entry, GoalBlock, GoalBlocks, HopBounds, Options, Report, Source};
 use std::alloc::Global;
 
 /// The posts of the one caller, who has seen all entries before each.

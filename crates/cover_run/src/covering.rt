@@ -9,12 +9,11 @@ ghost use Rattle.cover_run.specs.Report.{IsReport};
 use crate::command::Cover;
 use crate::composing::compose;
 use crate::first_forms::{FormFault, read_circuit, read_signals};
-use crate::options::Options;
 use crate::stop::{File, Stop, limit_of};
-use crate::text::text_of;
 use crate::walk::zero_walk;
 use aig_model::{Circuit, Signals};
 use ketch_base::OutOfMemory;
+use report_text::{Options, text_of};
 use run_io::{Desk, ReadFault, read_file};
 use std::alloc::Global;
 

@@ -5,10 +5,10 @@ ghost use Rattle.aig_model.specs.Meaning.{IsLegal, goal_of};
 ghost use Rattle.cover_run.specs.Walk.{first_value, zero_state, zero_row, AreZeroVisits, IsZeroTrace, ShowsVisit, VisitsAt};
 
 use crate::first_visits::FirstVisits;
-use crate::options::Options;
 use aig_eval::{goal_of, is_legal, next_state, step_values};
 use aig_model::{Bits, Circuit, Reset, Rows, Signals, Trace};
 use ketch_base::{OutOfMemory, Sequence};
+use report_text::Options;
 use std::alloc::Global;
 
 /// The first step, and there the least lane, at which a walk shows a goal.

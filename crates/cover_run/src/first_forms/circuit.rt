@@ -3,7 +3,7 @@
 ghost use Rattle.std.specs.Prelude.{◌≡◌, ◌↔◌, [], ◌∷◌, ◌++◌, take, drop, map, length, codes, string_bytes, IsTrue, IfOk, OnOk, IfSome, IsErrOf, Some};
 ghost use Rattle.aig_model.specs.WellFormed.{IsCircuit, IsSized, AreNames};
 ghost use Rattle.aig_model.specs.declared.parts.Parts.{Parts};
-ghost use Rattle.cover_run.specs.Text.{line, text};
+ghost use Rattle.report_text.specs.Text.{line, text};
 ghost use Rattle.cover_run.specs.FirstForms.{SpellsCircuit, reset_number, numbers_line, one_number, circuit_lines};
 ghost use Rattle.cover_run.specs.FirstReading.{first_number, number_in, input_rows, latch_rows, output_rows, reset_in, latch_in, latch_row, parts_in, header_line, IsSmall, IsTextOf};
 

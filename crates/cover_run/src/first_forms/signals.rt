@@ -1,7 +1,7 @@
 //! Signals that are latches. The numbers are picked leniently; the text that they have, compared with the input, decides.
 
 ghost use Rattle.std.specs.Prelude.{◌≡◌, ◌≢◌, ◌↔◌, ◌<◌, ℕ, List, map, length, string_bytes, All, AllPairs, IsTrue, IfOk, IsErrOf};
-ghost use Rattle.cover_run.specs.Text.{text};
+ghost use Rattle.report_text.specs.Text.{text};
 ghost use Rattle.cover_run.specs.FirstForms.{SpellsSignals, latch_line, latch_lit};
 ghost use Rattle.cover_run.specs.FirstReading.{picked_places, IsSignalCount};
 

@@ -1,6 +1,6 @@
 use Rattle.std.proofs.Common.{◌≡◌, ◌<◌, List, [], ◌∷◌, ◌++◌, length, get_or, ap, sym, ◌∙◌, arith}
 use Rattle.std.proofs.lemmas.List.{get_or_default}
-use Rattle.cover_run.specs.declared.report.Entry.{Entry}
+use Rattle.report_text.specs.declared.report.Entry.{Entry}
 use Rattle.cover_run.specs.declared.walk.Visit.{Visit}
 use Rattle.cover_run.specs.Posts.{post_of}
 use Rattle.cover_run.proofs.Posted.{posts-step}

@@ -1,5 +1,5 @@
 use Rattle.std.proofs.Common.{◌≡◌, ◌++◌, [], ℕ, List, map, append_assoc, sym, ◌∙◌}
-use Rattle.cover_run.specs.Text.{line, text}
+use Rattle.report_text.specs.Text.{line, text}
 use Rattle.cover_run.specs.FirstForms.{numbers_line, one_number}
 use Rattle.cover_run.specs.FirstReading.{header_line, latch_row}
 use Rattle.cover_run.proofs.PickedParts.{circuit_text}

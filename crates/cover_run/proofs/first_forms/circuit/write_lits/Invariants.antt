@@ -1,5 +1,5 @@
 use Rattle.std.proofs.Common.{◌≡◌, ◌++◌, map, take, string_bytes}
-use Rattle.cover_run.specs.Text.{text}
+use Rattle.report_text.specs.Text.{text}
 use Rattle.cover_run.specs.FirstForms.{numbers_line, one_number}
 use Rattle.cover_run.proofs.first_forms.circuit.write_lits.Given as goal
 

@@ -2,7 +2,7 @@ use Rattle.std.proofs.Common.{◌≢◌, ◌<◌, ℕ, List, map, length, sym, a
 use Rattle.std.specs.Prelude.{All, AllPairs}
 use Rattle.std.proofs.lemmas.Bool.{false≢true}
 use Rattle.aig_model.specs.WellFormed.{IsInRange}
-use Rattle.cover_run.specs.Text.{text}
+use Rattle.report_text.specs.Text.{text}
 use Rattle.cover_run.specs.FirstForms.{latch_line, latch_lit}
 use Rattle.cover_run.specs.FirstReading.{IsSignalCount}
 use Rattle.cover_run.proofs.SignalText.{places_back, signals-in_range}

@@ -1,5 +1,5 @@
 use Rattle.std.proofs.Common.{◌≡◌, map, take, string_bytes}
-use Rattle.cover_run.specs.Text.{text}
+use Rattle.report_text.specs.Text.{text}
 use Rattle.cover_run.specs.FirstForms.{latch_line}
 use Rattle.cover_run.proofs.first_forms.signals.text_of.Given as goal
 

@@ -1,7 +1,0 @@
-use Rattle.cover_run.proofs.Written.{report-written}
-use Rattle.cover_run.proofs.text.text_of.Goals as goal
-
-pub returns : goal.returns
-returns c =
-    rw (c.into_bytes.ensures, c.in_ok-write_end.ensures, c.in_ok-word-3.ensures, c.in_ok-write_goals.ensures, c.in_ok-word-2.ensures, c.in_ok-write_history.ensures, c.in_ok-write_options.ensures, c.in_ok-write_size.ensures, c.in_ok-word.ensures, c.new-out.ensures)
-    (report-written c.args.report.now)

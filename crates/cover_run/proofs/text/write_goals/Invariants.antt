@@ -1,7 +1,0 @@
-use Rattle.std.proofs.Common.{◌≡◌, ◌++◌, ◌∷◌, [], length, take}
-use Rattle.std.specs.Prelude.{codes}
-use Rattle.cover_run.specs.Text.{text, number_words, numbered_lines, block_lines}
-use Rattle.cover_run.proofs.text.write_goals.Given as goal
-
-abbrev pub invariant-loop-goal : goal.invariant-loop-goal
-invariant-loop-goal l = l.out ≡ l.fn.out ++ text (number_words (codes "goals") (length l.blocks ∷ []) ∷ numbered_lines block_lines 0 (take l.goal l.blocks))

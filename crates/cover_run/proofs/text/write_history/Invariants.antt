@@ -1,8 +1,0 @@
-use Rattle.std.proofs.Common.{◌≡◌, ◌++◌, ◌∷◌, [], length, take}
-use Rattle.std.specs.Prelude.{codes}
-use Rattle.cover_run.specs.Text.{text, number_words, numbered_lines, entry_words}
-use Rattle.cover_run.proofs.text.write_history.Given as goal
-
-abbrev pub invariant-loop-entry : goal.invariant-loop-entry
-invariant-loop-entry l =
-    l.out ≡ l.fn.out ++ text (number_words (codes "history") (length l.entries ∷ []) ∷ numbered_lines (λ _ e. entry_words e ∷ []) 0 (take l.entry-index l.entries))

@@ -1,7 +1,0 @@
-use Rattle.std.proofs.Common.{◌≡◌, ◌++◌, ◌∷◌, take}
-use Rattle.std.specs.List.{flat_map}
-use Rattle.cover_run.specs.Text.{hop_text}
-use Rattle.cover_run.proofs.text.write_hops.Given as goal
-
-abbrev pub invariant-loop-hop : goal.invariant-loop-hop
-invariant-loop-hop l = l.out ≡ l.fn.out ++ flat_map (λ h. 32 ∷ hop_text h) (take l.hop-index l.hops)

@@ -1,8 +1,0 @@
-//! Laws of the definitions, each a function that does nothing.
-
-ghost use Rattle.cover_run.specs.Report.{OneReport};
-
-/// A text of the report's form tells the report.
-pub fn one_report()
-    ensures { OneReport }
-{}

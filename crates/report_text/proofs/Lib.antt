@@ -1,0 +1,9 @@
+pub mod Determines
+pub mod GoalLines
+pub mod HeadLines
+pub mod HistoryLines
+pub mod Lines
+pub mod Pieces
+pub mod WitnessLines
+pub mod Words
+pub mod Written

@@ -1,0 +1,344 @@
+//! The text of a report.
+
+ghost use Rattle.std.specs.Prelude.{◌≡◌, ◌<◌, [], ◌∷◌, ◌++◌, length, slice_index_or, OnOk, IfOk};
+ghost use Rattle.std.specs.List.{flat_map};
+ghost use Rattle.report_text.specs.Text.{line, text, size_words, options_words, kind_text, source_text, entry_words, history_lines, bits_words, witness_lines, bound_text, hop_text, open_words, block_lines, goals_lines, end_words, report_text};
+
+use crate::options::Options;
+use crate::report::{Entries, Entry, GoalBlock, GoalBlocks, HopBound, HopBounds, Report, Source};
+use crate::text_writer::TextWriter;
+use aig_model::{Bits, Kind, Rows, Trace};
+use ketch_base::OutOfMemory;
+use std::alloc::Global;
+
+#[tactic(auto, unfolding(crate::specs::Text::size_words))]
+fn write_size(out: &mut TextWriter, report: &Report) -> Result<(), OutOfMemory>
+    ensures { OnOk result (out.new ≡ out.old ++ line (size_words report.now)) }
+{
+    let numbers = [
+        report.inputs.into(),
+        report.latches.into(),
+        report.signals.into(),
+    ];
+    out.number_line("size", &numbers)?;
+    Ok(())
+}
+
+#[tactic(auto, unfolding(crate::specs::Text::options_words))]
+fn write_options(out: &mut TextWriter, options: &Options) -> Result<(), OutOfMemory>
+    ensures { OnOk result (out.new ≡ out.old ++ line (options_words options.now)) }
+{
+    let numbers = [
+        options.depth.into(),
+        options.batches.into(),
+        options.length.into(),
+        options.stall.into(),
+        options.hop.into(),
+        options.seed,
+        options.lemmas,
+        options.strength.into(),
+        options.rounds.into(),
+        options.proofs.into(),
+    ];
+    out.number_line("options", &numbers)?;
+    Ok(())
+}
+
+#[tactic(auto, unfolding(crate::specs::Text::kind_text))]
+fn kind_word(kind: Kind) -> &'static str
+    ensures { result.now ≡ kind_text kind }
+{
+    match kind {
+        Kind::Reached => "r",
+        Kind::Unreachable => "u",
+    }
+}
+
+#[tactic(auto, unfolding(crate::specs::Text::source_text))]
+fn source_word(source: Source) -> &'static str
+    ensures { result.now ≡ source_text source }
+{
+    match source {
+        Source::Zero => "zero",
+    }
+}
+
+#[tactic(auto, unfolding(crate::specs::Text::entry_words))]
+fn write_entry(out: &mut TextWriter, entry: &Entry) -> Result<(), OutOfMemory>
+    ensures { OnOk result (out.new ≡ out.old ++ line (entry_words entry.now)) }
+{
+    out.number(entry.number)?;
+    out.next_number(entry.caller.into())?;
+    out.next_number(entry.goal.into())?;
+    out.next_word(kind_word(entry.kind))?;
+    out.next_word(source_word(entry.source))?;
+    out.next_number(entry.low)?;
+    out.end_line()?;
+    Ok(())
+}
+
+fn write_history(out: &mut TextWriter, entries: &Entries) -> Result<(), OutOfMemory>
+    ensures { OnOk result (out.new ≡ out.old ++ text (history_lines entries.now)) }
+{
+    out.number_line("history", &[entries.len() as u64])?;
+    for entry in entries.as_slice() {
+        write_entry(out, entry)?;
+    }
+    Ok(())
+}
+
+#[tactic(auto, unfolding(crate::specs::Text::bits_words))]
+fn write_bits(out: &mut TextWriter, bits: &Bits) -> Result<(), OutOfMemory>
+    ensures { OnOk result (out.new ≡ out.old ++ line (bits_words bits.now)) }
+{
+    for place in 0..bits.len() {
+        out.bit(bits.get(place))?;
+    }
+    out.end_line()?;
+    Ok(())
+}
+
+#[tactic(auto, unfolding(crate::specs::Text::bits_words))]
+fn write_row(out: &mut TextWriter, rows: &Rows, row: usize) -> Result<(), OutOfMemory>
+    requires within { row < length rows.now.rows }
+    requires wide { length (slice_index_or rows.now.rows row []) ≡ rows.now.width }
+    ensures { OnOk result (out.new ≡ out.old ++ line (bits_words (slice_index_or rows.now.rows row []))) }
+{
+    for column in 0..rows.width() {
+        out.bit(rows.bit(row, column))?;
+    }
+    out.end_line()?;
+    Ok(())
+}
+
+#[tactic(auto, unfolding(crate::specs::Text::witness_lines))]
+fn write_witness(out: &mut TextWriter, goal: u64, trace: &Trace) -> Result<(), OutOfMemory>
+    ensures { OnOk result (out.new ≡ out.old ++ text (witness_lines goal trace.now)) }
+{
+    out.word("1\nb")?;
+    out.number(goal)?;
+    out.end_line()?;
+    write_bits(out, &trace.start)?;
+    for row in 0..trace.rows.len() {
+        write_row(out, &trace.rows, row)?;
+    }
+    out.word(".\n")?;
+    Ok(())
+}
+
+#[tactic(auto, unfolding(crate::specs::Text::bound_text))]
+fn write_bound(out: &mut TextWriter, bound: Option<u32>) -> Result<(), OutOfMemory>
+    ensures { OnOk result (out.new ≡ out.old ++ 32 ∷ bound_text bound) }
+{
+    match bound {
+        None => out.next_word("none"),
+        Some(n) => out.next_number(n.into()),
+    }
+}
+
+#[tactic(auto, unfolding(crate::specs::Text::hop_text))]
+fn write_hop(out: &mut TextWriter, hop: HopBound) -> Result<(), OutOfMemory>
+    ensures { OnOk result (out.new ≡ out.old ++ 32 ∷ hop_text hop) }
+{
+    match hop {
+        HopBound::To(n) => out.next_number(n.into()),
+        HopBound::Nothing => out.next_word("none"),
+        HopBound::NoSeed => out.next_word("noseed"),
+    }
+}
+
+fn write_hops(out: &mut TextWriter, hops: &HopBounds) -> Result<(), OutOfMemory>
+    ensures { OnOk result (out.new ≡ out.old ++ flat_map (λ h. 32 ∷ hop_text h) hops.now) }
+{
+    for hop in hops.as_slice() {
+        write_hop(out, *hop)?;
+    }
+    Ok(())
+}
+
+fn write_open(
+    out: &mut TextWriter,
+    goal: u64,
+    depth: Option<u32>,
+    hops: &HopBounds,
+    strength: Option<u32>,
+) -> Result<(), OutOfMemory>
+    ensures { OnOk result (out.new ≡ out.old ++ line (open_words goal depth hops.now strength)) }
+{
+    out.word("goal")?;
+    out.next_number(goal)?;
+    out.next_word("open depth")?;
+    write_bound(out, depth)?;
+    out.next_word("hops")?;
+    write_hops(out, hops)?;
+    out.next_word("strength")?;
+    write_bound(out, strength)?;
+    out.end_line()?;
+    Ok(())
+}
+
+#[tactic(auto, unfolding(crate::specs::Text::block_lines))]
+fn write_reached(
+    out: &mut TextWriter,
+    goal: u64,
+    number: u64,
+    witness: &Trace,
+) -> Result<(), OutOfMemory>
+    ensures { OnOk result (out.new ≡ out.old ++ text (block_lines goal (GoalBlock.Reached number witness.now))) }
+{
+    out.word("goal")?;
+    out.next_number(goal)?;
+    out.next_word("reached")?;
+    out.next_number(number)?;
+    out.end_line()?;
+    write_witness(out, goal, witness)?;
+    Ok(())
+}
+
+#[tactic(auto, unfolding(crate::specs::Text::block_lines))]
+fn write_block(out: &mut TextWriter, goal: u64, block: &GoalBlock) -> Result<(), OutOfMemory>
+    ensures { OnOk result (out.new ≡ out.old ++ text (block_lines goal block.now)) }
+{
+    match block {
+        GoalBlock::Reached { number, witness } => write_reached(out, goal, *number, witness),
+        GoalBlock::Open {
+            depth,
+            hops,
+            strength,
+        } => write_open(out, goal, *depth, hops, *strength),
+    }
+}
+
+fn write_goals(out: &mut TextWriter, blocks: &GoalBlocks) -> Result<(), OutOfMemory>
+    ensures { OnOk result (out.new ≡ out.old ++ text (goals_lines blocks.now)) }
+{
+    out.number_line("goals", &[blocks.len() as u64])?;
+    for (goal, block) in blocks.as_slice().iter().enumerate() {
+        write_block(out, goal as u64, block)?;
+    }
+    Ok(())
+}
+
+#[tactic(auto, unfolding(crate::specs::Text::end_words))]
+fn write_end(out: &mut TextWriter, report: &Report) -> Result<(), OutOfMemory>
+    ensures { OnOk result (out.new ≡ out.old ++ line (end_words report.now)) }
+{
+    out.number_line(
+        "end",
+        &[
+            report.reached.into(),
+            report.unreachable.into(),
+            report.unsettled.into(),
+        ],
+    )
+}
+
+/// The text of a report, in time linear in its length.
+pub fn text_of(alloc: Global, report: &Report) -> Result<Vec<u8>, OutOfMemory>
+    ensures { IfOk result (λ bytes. bytes.items ≡ report_text report.now) }
+{
+    let mut out = TextWriter::new(alloc);
+    out.word("ketch 1\n")?;
+    write_size(&mut out, report)?;
+    write_options(&mut out, &report.options)?;
+    write_history(&mut out, &report.history)?;
+    out.word("seeds 0\ninvs 0\n")?;
+    write_goals(&mut out, &report.goals)?;
+    out.word("spents 0\nrefutes 0\n")?;
+    write_end(&mut out, report)?;
+    Ok(out.into_bytes())
+}
+
+#[cfg(test)]
+mod tests {
+    use super::*;
+    use ketch_base::Sequence;
+    use std::test::Fail;
+
+    const TOGGLE: &str = "ketch 1
+size 0 1 1
+options 0 0 1000 100 4 1 20000 0 0 0
+history 2
+0 0 0 r zero 0
+1 0 1 r zero 1
+seeds 0
+invs 0
+goals 2
+goal 0 reached 0
+1
+b0
+0
+
+.
+goal 1 reached 1
+1
+b1
+0
+
+
+.
+spents 0
+refutes 0
+end 2 0 0
+";
+
+    fn entry(number: u64, goal: u32) -> Entry {
+        Entry {
+            number,
+            caller: 0,
+            goal,
+            kind: Kind::Reached,
+            source: Source::Zero,
+            low: number,
+        }
+    }
+
+    /// Reached from the one latch at 0, after one row of no inputs or two.
+    fn block(alloc: Global, number: u64, two_rows: bool) -> Result<GoalBlock, OutOfMemory> {
+        let mut start = Bits::new(alloc);
+        start.push(false)?;
+        let mut rows = Rows::new(alloc, 0);
+        rows.push(&Bits::new(alloc))?;
+        if two_rows {
+            rows.push(&Bits::new(alloc))?;
+        }
+        let witness = Trace { start, rows };
+        Ok(GoalBlock::Reached { number, witness })
+    }
+
+    #[test]
+    fn toggle(rt: HostRuntime) -> Result<(), Fail> {
+        let alloc = rt.alloc();
+        let mut history = Sequence::new(alloc);
+        history.push(entry(0, 0))?;
+        history.push(entry(1, 1))?;
+        let mut goals = Sequence::new(alloc);
+        goals.push(block(alloc, 0, false)?)?;
+        goals.push(block(alloc, 1, true)?)?;
+        let report = Report {
+            inputs: 0,
+            latches: 1,
+            signals: 1,
+            options: Options {
+                depth: 0,
+                batches: 0,
+                length: 1000,
+                stall: 100,
+                hop: 4,
+                seed: 1,
+                lemmas: 20000,
+                strength: 0,
+                rounds: 0,
+                proofs: false,
+            },
+            history,
+            goals,
+            reached: 2,
+            unreachable: 0,
+            unsettled: 0,
+        };
+        let text = text_of(alloc, &report)?;
+        assert_eq!(rt; text.as_slice(), TOGGLE.as_bytes());
+        Ok(())
+    }
+}
