@@ -1,3 +1,5 @@
+pub mod Judging
+pub mod Literals
 pub mod Numbers
 pub mod Placed
 pub mod Spelling

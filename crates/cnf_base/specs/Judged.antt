@@ -1,6 +1,6 @@
 -- A clause under literals that are assumed to be true.
 -- A literal is true where it's assumed, false where its negation alone is, and else open.
-use Rattle.std.specs.Prelude.{Bool, false, cond, not, ◌||◌, eqb, ℤ, pos, negsuc, neg_ℤ, List, [], ◌∷◌, filter}
+use Rattle.std.specs.Prelude.{◌≢◌, IsTrue, IsFalse, Bool, false, cond, not, ◌||◌, eqb, ℤ, pos, negsuc, neg_ℤ, List, [], ◌∷◌, filter}
 use Rattle.std.specs.List.{list_any, list_all}
 use Rattle.cnf_base.specs.declared.judged.Judged.{Judged}
 use Rattle.cnf_base.specs.declared.judged.Judged.TheVariants.{Passed, Ended, Forces, Open}
@@ -16,6 +16,28 @@ same_lit (negsuc a) (negsuc b) = eqb a b
 abbrev pub has : List ℤ → ℤ → Bool
 has [] l = false
 has (m ∷ ms) l = same_lit m l || has ms l
+
+-- a literal is false where its negation is assumed and it is not
+abbrev pub IsFalseIn : List ℤ → ℤ → Type 0
+IsFalseIn assumed l = IsFalse (has assumed l) × IsTrue (has assumed (neg_ℤ l))
+
+-- a literal is open where neither it nor its negation is assumed
+abbrev pub IsOpenIn : List ℤ → ℤ → Type 0
+IsOpenIn assumed l = IsFalse (has assumed l) × IsFalse (has assumed (neg_ℤ l))
+
+-- a literal of the clause is assumed
+abbrev pub IsPassedIn : List ℤ → List ℤ → Type 0
+IsPassedIn assumed clause = (l : ℤ) × IsTrue (has clause l) × IsTrue (has assumed l)
+
+-- all literals of the clause are false
+abbrev pub IsRefutedIn : List ℤ → List ℤ → Type 0
+IsRefutedIn assumed clause = (l : ℤ) → IsTrue (has clause l) → IsFalseIn assumed l
+
+-- the literal is the one of the clause that is open, and all others are false
+pub record IsUnitIn (assumed clause : List ℤ) (l : ℤ) : Type 0 where
+  pub inside : IsTrue (has clause l)
+  pub open_here : IsOpenIn assumed l
+  pub others : (m : ℤ) → IsTrue (has clause m) → m ≢ l → IsFalseIn assumed m
 
 -- whether neither a literal nor its negation is assumed
 abbrev pub is_open : List ℤ → ℤ → Bool

@@ -3,17 +3,17 @@ use Rattle.std.proofs.Common.{◌≡◌, ◌↔◌, ℕ, ◌+◌, true, cond, lt
 use Rattle.std.proofs.lemmas.Bool.{cases_Bool, ltb-true, lt-ltb, cond-true}
 use Rattle.cnf_base.specs.declared.judged.Judged.{Judged}
 use Rattle.cnf_base.specs.declared.judged.Judged.TheVariants.{Passed, Ended, Forces, Open}
-use Rattle.cnf_base.specs.Judged.{has, judge, is_tautology}
+use Rattle.cnf_base.specs.Judged.{IsPassedIn, IsRefutedIn, IsUnitIn, has, judge, is_tautology}
 use Rattle.cnf_base.specs.Meaning.{CnfFormula}
 use Rattle.lrat_text.specs.declared.proof.LratStep.{LratStep}
 use Rattle.lrat_text.specs.declared.proof.LratStep.TheVariants.{Add, Delete}
 use Rattle.lrat_check.specs.declared.fault.ProofKind.{ProofKind}
 use Rattle.lrat_check.specs.declared.fault.ProofKind.TheVariants.{UnknownId}
 use Rattle.lrat_check.specs.Standing.{Standing, start, clause_at, without, after}
-use Rattle.lrat_check.specs.Accepted.{IsPassedIn, IsRefutedIn, IsUnitIn, Ends, MayAdd, MayDelete, MayStep, AddsEmpty, AcceptedFrom, Accepted}
+use Rattle.lrat_check.specs.Accepted.{Ends, MayAdd, MayDelete, MayStep, AddsEmpty, AcceptedFrom, Accepted}
 use Rattle.lrat_check.specs.FirstFault.{judged_fault, named_fault, hint_fault, add_fault, delete_fault, step_fault, is_empty, adds_empty, fault_at, fault_from, first_fault}
-use Rattle.lrat_check.proofs.Literals.{list_any-found, list_any-at}
-use Rattle.lrat_check.proofs.Judging.{passed_says, passed_from, ended_says, ended_from, forces_says, forces_from}
+use Rattle.cnf_base.proofs.Literals.{list_any-found, list_any-at}
+use Rattle.cnf_base.proofs.Judging.{passed_says, passed_from, ended_says, ended_from, forces_says, forces_from}
 
 -- how a hint goes on whose clause is this
 abbrev GoesOn : List (ℕ × List ℤ) → List ℤ → List ℤ → List ℤ → Type 0

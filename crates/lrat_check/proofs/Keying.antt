@@ -24,7 +24,7 @@ use Rattle.lrat_text.specs.declared.proof.LratStep.TheVariants.{Add, Delete}
 use Rattle.lrat_check.specs.Spent.{SameLiterals}
 use Rattle.lrat_check.specs.SpentFault.{same_literals, adds_lemma}
 use Rattle.lrat_check.specs.Keying.{IsKeyOf, Keys, holds, HoldsStep, AreTaken, TakesStep}
-use Rattle.lrat_check.proofs.Literals.{same_tests, or-false, same_lit-true, same_lit-itself, has-head}
+use Rattle.cnf_base.proofs.Literals.{same_tests, or-false, same_lit-true, same_lit-itself, has-head}
 use Rattle.lrat_check.proofs.Spending.{same_literals-says, same_literals-from, not_empty_from}
 
 -- what an order says

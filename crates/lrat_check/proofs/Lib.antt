@@ -4,9 +4,7 @@ pub mod Blank
 pub mod Counting
 pub mod Finding
 pub mod Growing
-pub mod Judging
 pub mod Keying
-pub mod Literals
 pub mod Negating
 pub mod Numbering
 pub mod Refuting

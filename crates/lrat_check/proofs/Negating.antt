@@ -5,7 +5,7 @@ use Rattle.std.proofs.lemmas.List.{take_more, map_push}
 use Rattle.cnf_base.specs.Judged.{same_lit, has, is_tautology}
 use Rattle.lrat_check.specs.declared.assumed.Truth.TheVariants.{True}
 use Rattle.lrat_check.specs.Assuming.{truth_in}
-use Rattle.lrat_check.proofs.Literals.{same_lit-true, neg_ℤ-neg_ℤ, has-head, has-append, list_any-found, list_any-at}
+use Rattle.cnf_base.proofs.Literals.{same_lit-true, neg_ℤ-neg_ℤ, has-head, has-append, list_any-found, list_any-at}
 
 same_lit-neg_ℤ : (m l : ℤ) → same_lit (neg_ℤ m) l ≡ same_lit m (neg_ℤ l)
 same_lit-neg_ℤ (pos zero) (pos zero) = grind arith

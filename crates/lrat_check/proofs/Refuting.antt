@@ -2,13 +2,13 @@
 use Rattle.std.proofs.Common.{◌≡◌, ℕ, zero, suc, ◌+◌, Bool, true, false, eqb, ℤ, pos, negsuc, neg_ℤ, List, [], ◌∷◌, ◌++◌, map, Some, refl, sym, subst, arith, inl, inr}
 use Rattle.std.proofs.lemmas.Bool.{or_cases, cases_Bool, or_left, or_right, or_parts}
 use Rattle.std.specs.List.{enumerate_from}
-use Rattle.cnf_base.specs.Judged.{same_lit, has}
+use Rattle.cnf_base.specs.Judged.{IsFalseIn, IsRefutedIn, IsUnitIn, same_lit, has}
 use Rattle.cnf_base.specs.Meaning.{CnfFormula, lit_true, clause_true, Satisfies, HasNoModel}
 use Rattle.lrat_text.specs.declared.proof.LratStep.{LratStep}
 use Rattle.lrat_text.specs.declared.proof.LratStep.TheVariants.{Add, Delete}
 use Rattle.lrat_check.specs.Standing.{Standing, start, clause_at, without, without_all, after}
-use Rattle.lrat_check.specs.Accepted.{IsFalseIn, IsRefutedIn, IsUnitIn, Ends, IsBothWays, MayAdd, MayStep, AddsEmpty, AcceptedFrom, Accepted}
-use Rattle.lrat_check.proofs.Literals.{same_lit-true, has-head}
+use Rattle.lrat_check.specs.Accepted.{Ends, IsBothWays, MayAdd, MayStep, AddsEmpty, AcceptedFrom, Accepted}
+use Rattle.cnf_base.proofs.Literals.{same_lit-true, has-head}
 
 -- literals that are all true
 abbrev AreTrue : (ℕ → Bool) → List ℤ → Type 0

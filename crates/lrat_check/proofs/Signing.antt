@@ -6,7 +6,7 @@ use Rattle.std.specs.Bool.{beq}
 use Rattle.std.proofs.lemmas.List.{drop_more, drop_all}
 use Rattle.cnf_base.specs.Judged.{same_lit, has}
 use Rattle.lrat_check.specs.Assuming.{flipped, is_positive, is_sign, signed, AreSignsOf}
-use Rattle.lrat_check.proofs.Literals.{or-false, has-append}
+use Rattle.cnf_base.proofs.Literals.{or-false, has-append}
 
 -- one more sign adds its literal, where the other sign was not there
 signed_more : (old new : ℕ → Option Bool) (l x : ℤ) → (l ≡ pos 0 → ⊥) → signed old (neg_ℤ l) ≡ false → ((y : ℕ) → new y ≡ cond (eqb y (nat_abs l)) (Some (is_positive l)) (old y)) → signed new x ≡ (signed old x || same_lit l x)

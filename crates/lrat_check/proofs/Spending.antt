@@ -13,7 +13,7 @@ use Rattle.lrat_check.specs.Standing.{Standing, start, after, with_clause}
 use Rattle.lrat_check.specs.FirstFault.{add_fault, step_fault, is_empty}
 use Rattle.lrat_check.specs.Spent.{SameLiterals, IsLemma, SpentFrom, SpentOn}
 use Rattle.lrat_check.specs.SpentFault.{same_literals, is_lemma, spent_at, spent_from, counted, spent_fault}
-use Rattle.lrat_check.proofs.Literals.{same_tests, same_lit-true, has-head, list_any-found, list_any-at}
+use Rattle.cnf_base.proofs.Literals.{same_tests, same_lit-true, has-head, list_any-found, list_any-at}
 use Rattle.lrat_check.proofs.Agreeing.{add_without_fault, no_add_fault}
 
 -- whether all literals of one clause stand in another

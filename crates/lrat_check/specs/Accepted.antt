@@ -1,32 +1,10 @@
 -- When a proof is accepted: the rule of LRAT without its RAT steps.
 use Rattle.std.specs.Prelude.{◌≡◌, ◌≢◌, ℕ, ◌<◌, IsTrue, IsFalse, ℤ, pos, negsuc, neg_ℤ, List, [], ◌∷◌, ◌++◌, map, Some, IsSome, ◌⊎◌}
-use Rattle.cnf_base.specs.Judged.{has}
+use Rattle.cnf_base.specs.Judged.{has, IsPassedIn, IsRefutedIn, IsUnitIn}
 use Rattle.cnf_base.specs.Meaning.{CnfFormula}
 use Rattle.lrat_text.specs.declared.proof.LratStep.{LratStep}
 use Rattle.lrat_text.specs.declared.proof.LratStep.TheVariants.{Add, Delete}
 use Rattle.lrat_check.specs.Standing.{Standing, start, clause_at, without, after}
-
--- a literal is false where its negation is assumed and it is not
-abbrev pub IsFalseIn : List ℤ → ℤ → Type 0
-IsFalseIn assumed l = IsFalse (has assumed l) × IsTrue (has assumed (neg_ℤ l))
-
--- a literal is open where neither it nor its negation is assumed
-abbrev pub IsOpenIn : List ℤ → ℤ → Type 0
-IsOpenIn assumed l = IsFalse (has assumed l) × IsFalse (has assumed (neg_ℤ l))
-
--- a literal of the clause is assumed
-abbrev pub IsPassedIn : List ℤ → List ℤ → Type 0
-IsPassedIn assumed clause = (l : ℤ) × IsTrue (has clause l) × IsTrue (has assumed l)
-
--- all literals of the clause are false
-abbrev pub IsRefutedIn : List ℤ → List ℤ → Type 0
-IsRefutedIn assumed clause = (l : ℤ) → IsTrue (has clause l) → IsFalseIn assumed l
-
--- the literal is the one of the clause that is open, and all others are false
-pub record IsUnitIn (assumed clause : List ℤ) (l : ℤ) : Type 0 where
-  pub inside : IsTrue (has clause l)
-  pub open_here : IsOpenIn assumed l
-  pub others : (m : ℤ) → IsTrue (has clause m) → m ≢ l → IsFalseIn assumed m
 
 -- the hints, taken in order, end at a clause that is false: a clause with a true literal is passed over, and one with
 -- a single open literal and all others false adds this literal to what is assumed

@@ -1,5 +1,5 @@
 -- How the trail is kept: the literals in order, the value of each literal, and for each variable what put it there.
-use Rattle.std.specs.Prelude.{◌≡◌, ℕ, zero, suc, ◌+◌, ◌*◌, ◌<◌, ◌≤◌, ℤ, pos, negsuc, nat_abs, Option, Some, None, List, length, map, take, slice_index, slice_index_or}
+use Rattle.std.specs.Prelude.{◌≡◌, ℕ, ◌+◌, ◌*◌, ◌<◌, ◌≤◌, ℤ, pos, negsuc, nat_abs, Option, Some, None, List, length, map, take, slice_index, slice_index_or}
 use Rattle.sat_trail.specs.declared.clause_id.ClauseId.{ClauseId}
 use Rattle.sat_trail.specs.declared.clause_id.ClauseId.TheVariants as ids
 use Rattle.sat_trail.specs.declared.truth.Value.{Value}

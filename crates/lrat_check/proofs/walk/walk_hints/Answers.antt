@@ -1,5 +1,5 @@
 use Rattle.std.proofs.Common.{sym}
-use Rattle.lrat_check.proofs.Judging.{forces_says}
+use Rattle.cnf_base.proofs.Judging.{forces_says}
 use Rattle.lrat_check.proofs.walk.walk_hints.Goals as goal
 
 pub assume-requires : goal.assume-requires

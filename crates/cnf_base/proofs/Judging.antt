@@ -4,9 +4,8 @@ use Rattle.std.specs.List.{list_any, list_all}
 use Rattle.std.proofs.lemmas.Bool.{or_cases, cases_Bool, or_right, or_parts, or_from, and_parts, and_from, both_ways, false_from_ne_true, not-true, not-false, not_from_false}
 use Rattle.cnf_base.specs.declared.judged.Judged.{Judged}
 use Rattle.cnf_base.specs.declared.judged.Judged.TheVariants.{Passed, Ended, Forces}
-use Rattle.cnf_base.specs.Judged.{same_lit, has, is_open, judged_by_open, judge}
-use Rattle.lrat_check.specs.Accepted.{IsFalseIn, IsOpenIn, IsPassedIn, IsRefutedIn, IsUnitIn}
-use Rattle.lrat_check.proofs.Literals.{same_lit-true, same_lit-itself, same_lit-apart, has-head, has-filter, list_any-found, list_any-at, list_any-none}
+use Rattle.cnf_base.specs.Judged.{same_lit, has, IsFalseIn, IsOpenIn, IsPassedIn, IsRefutedIn, IsUnitIn, is_open, judged_by_open, judge}
+use Rattle.cnf_base.proofs.Literals.{same_lit-true, same_lit-itself, same_lit-apart, has-head, has-filter, list_any-found, list_any-at, list_any-none}
 
 open_from : (assumed : List ℤ) (l : ℤ) → is_open assumed l ≡ true → IsOpenIn assumed l
 open_from assumed l h = or_parts (has assumed l) (has assumed (neg_ℤ l)) (not-true (has assumed l || has assumed (neg_ℤ l)) h)

@@ -1,0 +1,4 @@
+pub mod Climbing
+pub mod Valuing
+pub mod Keeping
+pub mod Reading

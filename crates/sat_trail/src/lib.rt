@@ -1,0 +1,15 @@
+//! The trail of a solver: the literals that are true, with their levels and reasons.
+#![tactic(auto)]
+
+mod cause;
+mod clause_id;
+mod reason;
+#[cfg(test)]
+mod tests;
+mod trail;
+mod truth;
+mod values;
+
+pub use clause_id::ClauseId;
+pub use trail::Trail;
+pub use truth::Value;

@@ -1,0 +1,8 @@
+//! Values of literals.
+
+#[derive(Clone, Copy, Debug, PartialEq, Eq)]
+pub enum Value {
+    True,
+    False,
+    Unset,
+}
