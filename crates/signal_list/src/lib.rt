@@ -1,0 +1,6 @@
+//! Signal lists: the texts that choose the signals of a circuit.
+#![tactic(auto)]
+
+mod fault;
+
+pub use fault::{SigFault, SigKind};
