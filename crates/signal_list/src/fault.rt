@@ -1,7 +1,9 @@
 //! What is wrong with a text that spells no signals.
 
+ghost use Rattle.std.specs.Prelude.{◌≡◌};
+ghost use Rattle.signal_list.specs.Reading.{on_line};
+
 use ketch_base::OutOfMemory;
-use std::alloc::AllocFailed;
 use thiserror::Error;
 
 /// On one line the kinds are tried in this order.
@@ -40,5 +42,45 @@ impl From<OutOfMemory> for SigFault {
 
     fn from(_error: OutOfMemory) -> SigFault {
         SigFault::OutOfMemory
+    }
+}
+
+/// What stopped the reading of a line.
+#[derive(Clone, Copy, Debug, PartialEq, Eq)]
+pub enum LineFault {
+    Kind(SigKind),
+    OutOfMemory,
+}
+
+impl LineFault {
+    pub fn on_line(self, line: u32) -> SigFault
+        ensures { result ≡ on_line line self }
+    {
+        match self {
+            LineFault::Kind(kind) => SigFault::At { line, kind },
+            LineFault::OutOfMemory => SigFault::OutOfMemory,
+        }
+    }
+}
+
+impl From<SigKind> for LineFault {
+    ghost use Rattle.std.specs.Prelude.{◌≡◌};
+    ghost use Rattle.signal_list.specs.declared.fault.LineFault.TheVariants.{Kind};
+
+    ghost from_gives = { λ kind e. e ≡ Kind kind };
+
+    fn from(kind: SigKind) -> LineFault {
+        LineFault::Kind(kind)
+    }
+}
+
+impl From<OutOfMemory> for LineFault {
+    ghost use Rattle.std.specs.Prelude.{◌≡◌};
+    ghost use Rattle.signal_list.specs.declared.fault.LineFault.TheVariants.{OutOfMemory};
+
+    ghost from_gives = { λ _ e. e ≡ OutOfMemory };
+
+    fn from(_error: OutOfMemory) -> LineFault {
+        LineFault::OutOfMemory
     }
 }

@@ -2,5 +2,13 @@
 #![tactic(auto)]
 
 mod fault;
+mod law;
+mod line;
+mod names;
+mod reading;
+mod reference;
+mod signal;
 
 pub use fault::{SigFault, SigKind};
+pub use law::no_text_is_read_two_ways;
+pub use reading::read_signals;

@@ -1,0 +1,16 @@
+//! A law of the format.
+
+ghost use Rattle.std.specs.Prelude.{◌≡◌, ℕ, List};
+ghost use Rattle.aig_model.specs.declared.parts.Parts.{Parts};
+ghost use Rattle.signal_list.specs.SignalText.{SpellsSignals, IsFirstFault};
+ghost use Rattle.signal_list.specs.declared.fault.SigKind.{SigKind};
+
+/// A text spells one list of signals, or has one first fault, and never two of these.
+pub fn no_text_is_read_two_ways()
+    ensures one_list { (c : Parts) (text k l : List ℕ) →
+        SpellsSignals c text k → SpellsSignals c text l → k ≡ l }
+    ensures one_fault { (c : Parts) (text : List ℕ) (m n : ℕ) (k l : SigKind) →
+        IsFirstFault c text m k → IsFirstFault c text n l → (m ≡ n) × (k ≡ l) }
+    ensures not_both { (c : Parts) (text lits : List ℕ) (line : ℕ) (kind : SigKind) →
+        SpellsSignals c text lits → ¬ IsFirstFault c text line kind }
+{}
