@@ -14,7 +14,7 @@ use Rattle.signal_list.specs.Reading.{name_in, reference_of}
 
 -- ---- forms
 
-some-some : {A : Type 0} (x y : A) → ◌≡◌ {A = Option A} (Some x) (Some y) → x ≡ y
+pub some-some : {A : Type 0} (x y : A) → ◌≡◌ {A = Option A} (Some x) (Some y) → x ≡ y
 some-some x y e = cc
 
 numbered : (letter line : List ℕ) (k : ℕ) (to : ℕ → Reference) → ((digits : List ℕ) → reference_of (letter ++ digits) ≡ option_map to (natural_of digits))
@@ -47,7 +47,7 @@ one-literal c (name bytes) k l f g = some-some k l (sym f.2 ∙ ap (literal_at c
 pub one-signal : (c : Parts) (line : List ℕ) (k l : ℕ) → SpellsSignal c line k → SpellsSignal c line l → k ≡ l
 one-signal c line k l f g = one-literal c f.0 k l f.2 (subst (λ (r : Reference). StandsFor c r l) (one-form g.0 f.0 line g.1 f.1) g.2)
 
-length-latch_lits : (c : Parts) → length (latch_lits c.latches) ≡ length c.latches
+pub length-latch_lits : (c : Parts) → length (latch_lits c.latches) ≡ length c.latches
 length-latch_lits c = length-map c.latches (λ (l : Latch). l.lit)
 
 literal_at-exists : (c : Parts) (p : Place) (lit : ℕ) → literal_at c p ≡ Some lit → Exists c p

@@ -14,16 +14,14 @@ use Rattle.aig_model.specs.SignalList.{IsSignals}
 use Rattle.aig_model.specs.WellFormed.{latch_lits, latch_literals, gate_literals, IsInRange, IsCircuit}
 use Rattle.aig_model.proofs.Elements.{All-left, All-right, All-flat_map_item}
 use Rattle.signal_list.specs.SignalText.{Reference, place, literal, name, signal_lines, literal_at, StandsFor, SpellsSignal, SpellsSignals}
+use Rattle.signal_list.proofs.Forms.{some-some}
 
 at-place : (P : ℕ → Type 0) (xs : List ℕ) (k x : ℕ) → All P xs → slice_get xs k ≡ Some x → P x
 at-place P xs k x all e = subst P (get_or_from_slice_get xs k x x e) (all k x (slice_get_within xs k x e))
 
-some-some : {A : Type 0} (x y : A) → ◌≡◌ {A = Option A} (Some x) (Some y) → x ≡ y
-some-some x y e = cc
-
 of-latch : (P : ℕ → Type 0) (latches : List Latch) (k x : ℕ) → All P (latch_literals latches) → slice_get (latch_lits latches) k ≡ Some x → P x
 of-latch P latches k x all e =
-    let within : k < length latches = let w = slice_get_within (latch_lits latches) k x e in omega (arith, length-map latches (λ (l : Latch). l.lit)) in
+    let within : k < length latches = let w = slice_get_within (latch_lits latches) k x e in omega (arith, length-map {A = Latch} latches (λ l. l.lit)) in
     elim (slice_get_cases latches k).1 as (λ _. P x) [
       | inl l ↦
           let same : l.0.lit ≡ x = some-some l.0.lit x (sym (slice_get-map (λ (m : Latch). m.lit) latches k ∙ ap (option_map (λ (m : Latch). m.lit)) l.2) ∙ e) in

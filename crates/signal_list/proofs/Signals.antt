@@ -21,7 +21,7 @@ use Rattle.signal_list.specs.declared.names.Owner.TheVariants.{One, Several}
 use Rattle.signal_list.specs.Names.{owner_of, the_owner}
 use Rattle.signal_list.specs.SignalText.{Reference, place, literal, name, IsNumbered, IsForm, literal_at, IsNameOf, StandsFor, SpellsSignal, IsOutOfRange, IsLineFault}
 use Rattle.signal_list.specs.Reading.{name_in, reference_of, capped_number, capped, IsOwnFault}
-use Rattle.signal_list.proofs.Forms.{form-read}
+use Rattle.signal_list.proofs.Forms.{form-read, length-latch_lits}
 use Rattle.signal_list.proofs.Owners.{owner-none, owner-one, owner-several}
 
 -- ---- the reference is the line's form
@@ -78,9 +78,6 @@ same-item : {X : Type 0} (xs : List X) (k : ℕ) (x : X) → length xs ≤ limit
 same-item xs k x few e =
     let within = slice_get_within xs (capped_number k) x e in
     subst (λ (n : ℕ). slice_get xs n ≡ Some x) (same-number k (length xs) (omega arith) within) e
-
-length-latch_lits : (c : Parts) → length (latch_lits c.latches) ≡ length c.latches
-length-latch_lits c = length-map c.latches (λ (l : Latch). l.lit)
 
 stands : (c : Parts) (r : Reference) (lit : ℕ) → IsSized c → StandsFor c (capped r) lit → StandsFor c r lit
 stands c (place (places.Input k)) lit sized e = same-item c.inputs k lit sized.inputs e

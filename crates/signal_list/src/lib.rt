@@ -8,6 +8,8 @@ mod names;
 mod reading;
 mod reference;
 mod signal;
+#[cfg(test)]
+mod tests;
 
 pub use fault::{SigFault, SigKind};
 pub use law::no_text_is_read_two_ways;
