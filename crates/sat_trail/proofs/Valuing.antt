@@ -77,7 +77,7 @@ any-right x [] ys h = h
 any-right x (z ∷ zs) ys h = any-right x zs ys (or_parts (eqb x z) (list_any (eqb x) (zs ++ ys)) h).1
 
 -- what stands in one part of a list without repeats doesn't stand in the other
-distinct_apart : (xs ys : List ℕ) (v : ℕ) → IsDistinct eqb (xs ++ ys) → list_any (eqb v) ys ≡ true → list_any (eqb v) xs ≡ false
+pub distinct_apart : (xs ys : List ℕ) (v : ℕ) → IsDistinct eqb (xs ++ ys) → list_any (eqb v) ys ≡ true → list_any (eqb v) xs ≡ false
 distinct_apart [] ys v h k = refl
 distinct_apart (x ∷ xs) ys v h k =
     let rest = distinct_apart xs ys v (IsDistinct-tail eqb x (xs ++ ys) h) k in
