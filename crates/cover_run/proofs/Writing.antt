@@ -4,7 +4,7 @@ use Rattle.std.specs.Prelude.{Result}
 use Rattle.run_io.specs.Count.{Rose}
 use Rattle.run_io.specs.declared.write.WriteFault.{WriteFault}
 use Rattle.run_io.specs.declared.write.WriteFault.TheVariants as faults
-use Rattle.cover_run.specs.Answer.{SinkSeen, Failed}
+use Rattle.cover_run.specs.Seen.{SinkSeen, Failed}
 
 abbrev pub Fails : WriteFault → Result (Unit {0}) WriteFault
 Fails fault = Err fault

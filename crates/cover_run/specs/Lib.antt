@@ -1,5 +1,8 @@
 pub mod Answer
 pub mod Blocks
+pub mod Checking
+pub mod Covering
+pub mod Files
 pub mod FirstForms
 pub mod FirstReading
 pub mod FirstVisits
@@ -8,7 +11,9 @@ pub mod Orders
 pub mod Posts
 pub mod Promises
 pub mod Report
+pub mod Seen
 pub mod Steps
+pub mod Stops
 pub mod Summed
 pub mod Walk
 pub mod Words

@@ -1,32 +1,46 @@
 -- The promises of a run, each readable by itself.
-use Rattle.std.specs.Prelude.{◌≡◌, ◌⊎◌, ◌↔◌, ℕ, ◌<◌, ◌≤◌, false, List, length, slice_get, Some, IfSome}
+use Rattle.std.specs.Prelude.{◌≡◌, ◌⊎◌, ◌↔◌, ℕ, ◌<◌, ◌≤◌, false, List, length, slice_get, codes, Some, IfSome, IsSomeAnd}
 use Rattle.aig_model.specs.declared.parts.Parts.{Parts}
-use Rattle.run_io.specs.Count.{Rose}
-use Rattle.run_io.specs.Sink.{GrewByPrefix}
+use Rattle.cnf_base.specs.Dimacs.{SpellsFormula, IsFirstFault as IsFirstInFormula}
+use Rattle.cnf_base.specs.Meaning.{CnfFormula, HasNoModel}
+use Rattle.cnf_base.specs.declared.fault.DimacsKind.{DimacsKind}
+use Rattle.lrat_text.specs.Lrat.{SpellsProof, IsFirstFault as IsFirstInProof}
+use Rattle.lrat_text.specs.declared.fault.LratKind.{LratKind}
+use Rattle.lrat_text.specs.declared.proof.LratStep.{LratStep}
+use Rattle.lrat_check.specs.Accepted.{Accepted}
+use Rattle.lrat_check.specs.FirstFault.{first_fault}
+use Rattle.lrat_check.specs.declared.fault.ProofKind.{ProofKind}
 use Rattle.report_text.specs.declared.report.GoalBlock.{GoalBlock}
 use Rattle.cover_run.specs.declared.stop.File.{File}
 use Rattle.cover_run.specs.declared.stop.File.TheVariants as files
+use Rattle.cover_run.specs.declared.stop.Measure.{Measure}
+use Rattle.cover_run.specs.declared.stop.Refusal.{Refusal}
+use Rattle.cover_run.specs.declared.stop.Refusal.TheVariants as refusals
 use Rattle.cover_run.specs.declared.stop.Stop.{Stop}
 use Rattle.cover_run.specs.declared.stop.Stop.TheVariants as stops
 use Rattle.cover_run.specs.declared.stop.Status.{Status}
 use Rattle.cover_run.specs.declared.stop.Status.TheVariants as statuses
+use Rattle.cover_run.specs.Answer.{Cause, HasBadCircuit, HasBadSignals, IsTooLarge, IsRefused, IsPartial}
+use Rattle.cover_run.specs.Checking.{formula_stop}
+use Rattle.cover_run.specs.Files.{name_of, limit_of, IsTooLong, IsWithin}
 use Rattle.cover_run.specs.FirstForms.{SpellsCircuit, SpellsSignals}
 use Rattle.cover_run.specs.Report.{IsReport, Asked, bounds_of, is_open}
-use Rattle.cover_run.specs.Words.{CoverCall, Command, Cover}
-use Rattle.cover_run.specs.Answer.{DeskSeen, SinkSeen, Failed, Took, TookWhatItCould, IsTooLong, IsCommandWithin, IsNoCircuit, IsNoSignals, HasCircuit, name_of, limit_of, line_of, status_of}
+use Rattle.cover_run.specs.Seen.{DeskSeen, SinkSeen, HasFaulted, Failed, Took, TookWhatItCould}
+use Rattle.cover_run.specs.Stops.{line_of, status_of}
+use Rattle.cover_run.specs.Words.{CoverCall, LratCall, Command, Cover, Lrat}
 
 -- ---- premises
--- the desk tells this text, which is within the file's limit, and no fault of its name was counted
-pub record IsTold (call : CoverCall) (d : DeskSeen) (f : File) (t : List ℕ) : Type 0 where
-  pub told : d.text (name_of call f) ≡ Some t
+-- the desk tells this text of the file's name, within the file's limit, and no fault of the name was counted
+pub record IsTold (d : DeskSeen) (f : File) (name t : List ℕ) : Type 0 where
+  pub told : d.text name ≡ Some t
   pub short : length t ≤ limit_of f
-  pub no_fault : ¬ Rose (d.faults (name_of call f)) (d.faults_after (name_of call f))
+  pub no_fault : ¬ HasFaulted d name
 
--- the desk tells a text past the file's limit, and no fault of its name was counted
-pub record IsToldTooLong (call : CoverCall) (d : DeskSeen) (f : File) (t : List ℕ) : Type 0 where
-  pub told : d.text (name_of call f) ≡ Some t
+-- the desk tells a text past the file's limit, and no fault of the name was counted
+pub record IsToldTooLong (d : DeskSeen) (f : File) (name t : List ℕ) : Type 0 where
+  pub told : d.text name ≡ Some t
   pub long : limit_of f < length t
-  pub no_fault : ¬ Rose (d.faults (name_of call f)) (d.faults_after (name_of call f))
+  pub no_fault : ¬ HasFaulted d name
 
 -- the texts that the desk tells are accepted within their limits as this circuit and these signals
 pub record Accepts (call : CoverCall) (d : DeskSeen) (c : Parts) (sig : List ℕ) : Type 0 where
@@ -39,18 +53,28 @@ pub record Accepts (call : CoverCall) (d : DeskSeen) (c : Parts) (sig : List ℕ
   pub signals_short : length signals_text ≤ limit_of files.Signals
   pub signals : SpellsSignals c signals_text sig
 
+-- the texts that the desk tells spell this formula and this proof within their limits
+pub record Spells (call : LratCall) (d : DeskSeen) (f : CnfFormula) (p : List LratStep) : Type 0 where
+  pub formula_text : List ℕ
+  pub formula_told : d.text call.formula ≡ Some formula_text
+  pub formula_short : length formula_text ≤ limit_of files.Formula
+  pub formula : SpellsFormula formula_text f
+  pub proof_text : List ℕ
+  pub proof_told : d.text call.proof ≡ Some proof_text
+  pub proof_short : length proof_text ≤ limit_of files.Proof
+  pub proof : SpellsProof proof_text p
+
 -- no fault of the command's files, and no fault and no idle write of the output, was counted
-pub record IsUndisturbed (call : CoverCall) (d : DeskSeen) (out : SinkSeen) : Type 0 where
-  pub circuit : ¬ Rose (d.faults call.circuit) (d.faults_after call.circuit)
-  pub signals : ¬ Rose (d.faults call.signals) (d.faults_after call.signals)
+pub record IsUndisturbed (command : Command) (d : DeskSeen) (out : SinkSeen) : Type 0 where
+  pub files : (f : File) → IfSome (name_of command f) (λ name. ¬ HasFaulted d name)
   pub output : ¬ Failed out
 
 abbrev pub HasEnded : Status → Type 0
 HasEnded status = (status ≡ statuses.Settled) ⊎ (status ≡ statuses.Open)
 
--- this answer, want of memory aside
-abbrev pub Answers : Status → Status → Type 0
-Answers status wanted = (status ≡ wanted) ⊎ (status ≡ statuses.WantOfMemory)
+-- this stop is the answer, and its line was said, want of memory aside
+abbrev pub Answers : SinkSeen → Status → Stop → Type 0
+Answers err status stop = ((status ≡ status_of stop) × TookWhatItCould err (line_of stop)) ⊎ (status ≡ statuses.WantOfMemory)
 
 -- ---- the headline
 -- The output took exactly the text of a true report of the circuit, the signals and the options, and
@@ -79,73 +103,123 @@ pub record IsComplete (call : CoverCall) (c : Parts) (sig : List ℕ) (out : Sin
 -- with no cause of a refusal and no fault, the whole report is written, want of memory aside
 abbrev pub Completeness : Command → DeskSeen → SinkSeen → Status → Type 0
 Completeness command d out status =
-    (call : CoverCall) (c : Parts) (sig : List ℕ) → command ≡ Cover call → Accepts call d c sig → IsUndisturbed call d out
+    (call : CoverCall) (c : Parts) (sig : List ℕ) → command ≡ Cover call → Accepts call d c sig → IsUndisturbed command d out
     → IsComplete call c sig out status ⊎ (status ≡ statuses.WantOfMemory)
+
+-- ---- a proof is accepted
+-- the proof is accepted, the formula has no model, and the output took exactly the line that says so
+pub record IsProved (f : CnfFormula) (p : List LratStep) (out : SinkSeen) (status : Status) : Type 0 where
+  pub settled : status ≡ statuses.Settled
+  pub accepted : Accepted f p
+  pub no_model : HasNoModel f.clauses
+  pub took : Took out (codes "accepted\n")
+
+-- status 0 or 1 comes only where the proof is accepted, and is 0
+abbrev pub AcceptedCause : Command → DeskSeen → SinkSeen → Status → Type 0
+AcceptedCause command d out status =
+    (call : LratCall) (f : CnfFormula) (p : List LratStep) → command ≡ Lrat call → Spells call d f p → HasEnded status → IsProved f p out status
+
+-- and there it comes, where nothing failed
+abbrev pub AcceptedComes : Command → DeskSeen → SinkSeen → Status → Type 0
+AcceptedComes command d out status =
+    (call : LratCall) (f : CnfFormula) (p : List LratStep) → command ≡ Lrat call → Spells call d f p → Accepted f p → IsUndisturbed command d out
+    → IsProved f p out status ⊎ (status ≡ statuses.WantOfMemory)
 
 -- ---- causes, status by status
 -- only where the faults of the file in the line rose
 abbrev pub ReadFaultCause : Command → DeskSeen → SinkSeen → Status → Type 0
 ReadFaultCause command d err status =
-    status ≡ statuses.ReadFault → (call : CoverCall) × (f : File) × (command ≡ Cover call)
-    × Rose (d.faults (name_of call f)) (d.faults_after (name_of call f)) × TookWhatItCould err (line_of (stops.Unreadable f))
+    status ≡ statuses.ReadFault → (f : File) × IsSomeAnd (name_of command f) (HasFaulted d) × TookWhatItCould err (line_of (stops.Unreadable f))
 
 -- only where no circuit is spelled
 abbrev pub BadCircuitCause : Command → DeskSeen → Status → Type 0
-BadCircuitCause command d status =
-    status ≡ statuses.BadCircuit → (call : CoverCall) × (command ≡ Cover call) × IfSome (d.text call.circuit) IsNoCircuit
-
--- and there it comes
-abbrev pub BadCircuitComes : Command → DeskSeen → Status → Type 0
-BadCircuitComes command d status =
-    (call : CoverCall) (t : List ℕ) → command ≡ Cover call → IsTold call d files.Circuit t → ((c : Parts) → ¬ SpellsCircuit t c) → Answers status statuses.BadCircuit
+BadCircuitCause command d status = status ≡ statuses.BadCircuit → HasBadCircuit command d
 
 -- only where a circuit is spelled, and no signals for it
 abbrev pub BadSignalsCause : Command → DeskSeen → Status → Type 0
-BadSignalsCause command d status =
-    status ≡ statuses.BadSignals → (call : CoverCall) × (command ≡ Cover call)
-    × ((c : Parts) × HasCircuit call d c × IfSome (d.text call.signals) (IsNoSignals c))
+BadSignalsCause command d status = status ≡ statuses.BadSignals → HasBadSignals command d
 
--- and there it comes
-abbrev pub BadSignalsComes : Command → DeskSeen → Status → Type 0
-BadSignalsComes command d status =
-    (call : CoverCall) (t : List ℕ) (c : Parts) (u : List ℕ) → command ≡ Cover call → IsTold call d files.Circuit t → SpellsCircuit t c
-    → IsTold call d files.Signals u → ((sig : List ℕ) → ¬ SpellsSignals c u sig) → Answers status statuses.BadSignals
-
--- only where a byte past the limit of the file in the line was given
+-- only where a byte past the limit of the file in the line was given, or the number in the line is past its limit
 abbrev pub LimitCause : Command → DeskSeen → SinkSeen → Status → Type 0
 LimitCause command d err status =
-    status ≡ statuses.Limit → (call : CoverCall) × (f : File) × (command ≡ Cover call) × IsTooLong call d f × TookWhatItCould err (line_of (stops.TooLong f))
+    status ≡ statuses.Limit
+    → ((f : File) × IsSomeAnd (name_of command f) (IsTooLong d f) × TookWhatItCould err (line_of (stops.TooLong f)))
+    ⊎ ((m : Measure) × IsTooLarge command d m × TookWhatItCould err (line_of (stops.TooLarge m)))
 
 -- under every other status no file was given past its limit
 abbrev pub WithinLimits : Command → DeskSeen → Status → Type 0
-WithinLimits command d status = ¬ (status ≡ statuses.Limit) → IsCommandWithin command d
+WithinLimits command d status = ¬ (status ≡ statuses.Limit) → IsWithin command d
+
+-- only where the reader or checker that the line names refuses so
+abbrev pub RefusedCause : Command → DeskSeen → SinkSeen → Status → Type 0
+RefusedCause command d err status = status ≡ statuses.Refused → (why : Refusal) × IsRefused command d why × TookWhatItCould err (line_of (stops.Refused why))
+
+-- ---- the refusals of `cover` come
+abbrev pub BadCircuitComes : Command → DeskSeen → SinkSeen → Status → Type 0
+BadCircuitComes command d err status =
+    (call : CoverCall) (t : List ℕ) → command ≡ Cover call → IsTold d files.Circuit call.circuit t → ((c : Parts) → ¬ SpellsCircuit t c)
+    → Answers err status stops.BadCircuit
+
+abbrev pub BadSignalsComes : Command → DeskSeen → SinkSeen → Status → Type 0
+BadSignalsComes command d err status =
+    (call : CoverCall) (t : List ℕ) (c : Parts) (u : List ℕ) → command ≡ Cover call → IsTold d files.Circuit call.circuit t → SpellsCircuit t c
+    → IsTold d files.Signals call.signals u → ((sig : List ℕ) → ¬ SpellsSignals c u sig) → Answers err status stops.BadSignals
 
 -- a circuit that is told and too long is refused so
-abbrev pub LongCircuitComes : Command → DeskSeen → Status → Type 0
-LongCircuitComes command d status =
-    (call : CoverCall) (t : List ℕ) → command ≡ Cover call → IsToldTooLong call d files.Circuit t → Answers status statuses.Limit
+abbrev pub LongCircuitComes : Command → DeskSeen → SinkSeen → Status → Type 0
+LongCircuitComes command d err status =
+    (call : CoverCall) (t : List ℕ) → command ≡ Cover call → IsToldTooLong d files.Circuit call.circuit t → Answers err status (stops.TooLong files.Circuit)
 
 -- and signals, where the circuit is accepted
-abbrev pub LongSignalsComes : Command → DeskSeen → Status → Type 0
-LongSignalsComes command d status =
-    (call : CoverCall) (t : List ℕ) (c : Parts) (u : List ℕ) → command ≡ Cover call → IsTold call d files.Circuit t → SpellsCircuit t c
-    → IsToldTooLong call d files.Signals u → Answers status statuses.Limit
+abbrev pub LongSignalsComes : Command → DeskSeen → SinkSeen → Status → Type 0
+LongSignalsComes command d err status =
+    (call : CoverCall) (t : List ℕ) (c : Parts) (u : List ℕ) → command ≡ Cover call → IsTold d files.Circuit call.circuit t → SpellsCircuit t c
+    → IsToldTooLong d files.Signals call.signals u → Answers err status (stops.TooLong files.Signals)
+
+-- ---- the refusals of `lrat` come
+-- a formula's text has a first fault
+abbrev pub BadFormulaComes : Command → DeskSeen → SinkSeen → Status → Type 0
+BadFormulaComes command d err status =
+    (call : LratCall) (t : List ℕ) (line : ℕ) (kind : DimacsKind) → command ≡ Lrat call → IsTold d files.Formula call.formula t → IsFirstInFormula t line kind
+    → Answers err status (formula_stop line kind)
+
+-- the formula is spelled, and the proof's text has a first fault
+abbrev pub BadProofComes : Command → DeskSeen → SinkSeen → Status → Type 0
+BadProofComes command d err status =
+    (call : LratCall) (t : List ℕ) (f : CnfFormula) (u : List ℕ) (line : ℕ) (kind : LratKind) → command ≡ Lrat call → IsTold d files.Formula call.formula t
+    → SpellsFormula t f → IsTold d files.Proof call.proof u → IsFirstInProof u line kind → Answers err status (stops.Refused (refusals.Proof line kind))
+
+-- both are spelled, and the proof has a first fault
+abbrev pub BadStepComes : Command → DeskSeen → SinkSeen → Status → Type 0
+BadStepComes command d err status =
+    (call : LratCall) (t : List ℕ) (f : CnfFormula) (u : List ℕ) (p : List LratStep) (step : ℕ) (kind : ProofKind) → command ≡ Lrat call
+    → IsTold d files.Formula call.formula t → SpellsFormula t f → IsTold d files.Proof call.proof u → SpellsProof u p → first_fault f p ≡ Some (step, kind)
+    → Answers err status (stops.Refused (refusals.Step step kind))
+
+-- a formula that is told and too long is refused so
+abbrev pub LongFormulaComes : Command → DeskSeen → SinkSeen → Status → Type 0
+LongFormulaComes command d err status =
+    (call : LratCall) (t : List ℕ) → command ≡ Lrat call → IsToldTooLong d files.Formula call.formula t → Answers err status (stops.TooLong files.Formula)
+
+-- and a proof, where the formula is spelled
+abbrev pub LongProofComes : Command → DeskSeen → SinkSeen → Status → Type 0
+LongProofComes command d err status =
+    (call : LratCall) (t : List ℕ) (f : CnfFormula) (u : List ℕ) → command ≡ Lrat call → IsTold d files.Formula call.formula t → SpellsFormula t f
+    → IsToldTooLong d files.Proof call.proof u → Answers err status (stops.TooLong files.Proof)
 
 -- ---- what is left of the output
 -- the statuses under which the output is untouched
 abbrev pub IsEarly : Status → Type 0
 IsEarly status =
     (status ≡ statuses.Usage) ⊎ (status ≡ statuses.ReadFault) ⊎ (status ≡ statuses.BadCircuit) ⊎ (status ≡ statuses.BadSignals) ⊎ (status ≡ statuses.Limit)
+    ⊎ (status ≡ statuses.Refused)
 
 -- under a write fault or want of memory it is as it was, or grew by a prefix of a whole output
 abbrev pub PrefixAfterFault : Command → DeskSeen → SinkSeen → Status → Type 0
-PrefixAfterFault command d out status =
-    ((status ≡ statuses.WriteFault) ⊎ (status ≡ statuses.WantOfMemory))
-    → (out.taken_after ≡ out.taken)
-    ⊎ ((call : CoverCall) × (c : Parts) × (sig : List ℕ) × (bytes : List ℕ) × (command ≡ Cover call) × IsReport c sig call.options bytes
-    × GrewByPrefix out.taken out.taken_after bytes)
+PrefixAfterFault command d out status = ((status ≡ statuses.WriteFault) ⊎ (status ≡ statuses.WantOfMemory)) → IsPartial command d out
 
 -- ---- the error stream
--- every status but the first two has its line there, as far as the stream took it
-abbrev pub SaysLine : SinkSeen → Status → Type 0
-SaysLine err status = ((status ≡ statuses.Settled) ⊎ (status ≡ statuses.Open)) ⊎ ((stop : Stop) × (status ≡ status_of stop) × TookWhatItCould err (line_of stop))
+-- every status but the first two has a cause, whose line went there as far as the stream took it
+abbrev pub SaysLine : Command → DeskSeen → SinkSeen → SinkSeen → Status → Type 0
+SaysLine command d out err status =
+    HasEnded status ⊎ ((stop : Stop) × (status ≡ status_of stop) × Cause command d out stop × TookWhatItCould err (line_of stop))

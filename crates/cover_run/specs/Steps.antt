@@ -1,33 +1,44 @@
 -- Causes of the steps of a command.
-use Rattle.std.specs.Prelude.{◌≡◌, ◌⊎◌, ℕ, ◌+◌, ◌<◌, ◌≤◌, List, length, Option, Some, IfSome}
-use Rattle.run_io.specs.Count.{Rose}
+use Rattle.std.specs.Prelude.{◌≡◌, ◌≢◌, ◌⊎◌, ℕ, List, Some}
+use Rattle.cnf_base.specs.Dimacs.{IsFirstFault as IsFirstInFormula}
+use Rattle.cnf_base.specs.Meaning.{CnfFormula}
+use Rattle.cnf_base.specs.declared.fault.DimacsKind.TheVariants as dimacs
+use Rattle.lrat_text.specs.Lrat.{IsFirstFault as IsFirstInProof}
+use Rattle.lrat_text.specs.declared.proof.LratStep.{LratStep}
+use Rattle.lrat_check.specs.FirstFault.{first_fault}
 use Rattle.cover_run.specs.declared.stop.File.{File}
+use Rattle.cover_run.specs.declared.stop.Measure.TheVariants as measures
+use Rattle.cover_run.specs.declared.stop.Refusal.TheVariants as refusals
 use Rattle.cover_run.specs.declared.stop.Stop.{Stop}
 use Rattle.cover_run.specs.declared.stop.Stop.TheVariants as stops
-use Rattle.cover_run.specs.Answer.{limit_of, SinkSeen, Failed}
+use Rattle.cover_run.specs.Files.{IsRead, IsLeft, IsTooLong}
+use Rattle.cover_run.specs.Seen.{DeskSeen, HasFaulted}
 
 -- why one file isn't read: its faults rose, or it is too long
-abbrev pub PartCause : ℕ → ℕ → Option (List ℕ) → Option (List ℕ) → ℕ → File → List ℕ → Stop → Type 0
-PartCause faults faults_after text started given file name (stops.Unreadable f) = (f ≡ file) × Rose faults faults_after
-PartCause faults faults_after text started given file name (stops.TooLong f) =
-    (f ≡ file) × (started ≡ Some name) × (given ≡ limit_of file + 1) × IfSome text (λ t. limit_of file < length t)
-PartCause faults faults_after text started given file name stops.OutOfMemory = Unit {0}
-PartCause faults faults_after text started given file name stops.Usage = ⊥
-PartCause faults faults_after text started given file name stops.BadCircuit = ⊥
-PartCause faults faults_after text started given file name stops.BadSignals = ⊥
-PartCause faults faults_after text started given file name stops.CannotWrite = ⊥
+abbrev pub PartCause : DeskSeen → File → List ℕ → Stop → Type 0
+PartCause d file name (stops.Unreadable f) = (f ≡ file) × HasFaulted d name
+PartCause d file name (stops.TooLong f) = (f ≡ file) × IsTooLong d file name
+PartCause d file name stops.OutOfMemory = Unit {0}
+PartCause d file name stop = ⊥
 
 -- no file was started, or this one was and was given within its limit
-abbrev pub IsLeftOrRead : Option (List ℕ) → Option (List ℕ) → ℕ → ℕ → File → List ℕ → Type 0
-IsLeftOrRead started started_after given given_after file name =
-    ((started_after ≡ started) × (given_after ≡ given)) ⊎ ((started_after ≡ Some name) × (given_after ≤ limit_of file))
+abbrev pub IsLeftOrRead : DeskSeen → File → List ℕ → Type 0
+IsLeftOrRead d file name = IsLeft d ⊎ IsRead d file name
 
--- why an output isn't whole
-abbrev pub WriteCause : SinkSeen → Stop → Type 0
-WriteCause s stops.CannotWrite = Failed s
-WriteCause s stops.OutOfMemory = Unit {0}
-WriteCause s stops.Usage = ⊥
-WriteCause s (stops.Unreadable f) = ⊥
-WriteCause s (stops.TooLong f) = ⊥
-WriteCause s stops.BadCircuit = ⊥
-WriteCause s stops.BadSignals = ⊥
+-- why the bytes of a formula, and those of a proof, are refused
+abbrev pub FormulaCause : List ℕ → Stop → Type 0
+FormulaCause bytes (stops.TooLarge measures.Formula) = (line : ℕ) × IsFirstInFormula bytes line dimacs.Limit
+FormulaCause bytes (stops.Refused (refusals.Formula line kind)) = (kind ≢ dimacs.Limit) × IsFirstInFormula bytes line kind
+FormulaCause bytes stops.OutOfMemory = Unit {0}
+FormulaCause bytes stop = ⊥
+
+abbrev pub ProofCause : List ℕ → Stop → Type 0
+ProofCause bytes (stops.Refused (refusals.Proof line kind)) = IsFirstInProof bytes line kind
+ProofCause bytes stops.OutOfMemory = Unit {0}
+ProofCause bytes stop = ⊥
+
+-- why a proof isn't accepted
+abbrev pub JudgeCause : CnfFormula → List LratStep → Stop → Type 0
+JudgeCause f p (stops.Refused (refusals.Step step kind)) = first_fault f p ≡ Some (step, kind)
+JudgeCause f p stops.OutOfMemory = Unit {0}
+JudgeCause f p stop = ⊥

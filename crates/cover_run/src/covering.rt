@@ -1,48 +1,26 @@
 //! The command `cover`: it reads, computes and says what to write, and only then is anything written.
 
-ghost use Rattle.std.specs.Prelude.{◌≡◌, ◌≤◌, ℕ, List, Some, IfOk, IfErr, IfSome, OnOk, length, nat_eq};
-ghost use Rattle.cover_run.specs.Answer.{IsCoverOutput, IsCircuitText, IsSignalsText, RefusalCause, UnlessTooLong, IsWithin, limit_of};
-ghost use Rattle.cover_run.specs.Orders.{call_of};
-ghost use Rattle.cover_run.specs.Steps.{PartCause, IsLeftOrRead};
+ghost use Rattle.std.specs.Prelude.{◌≡◌, ℕ, List, IfOk, IfErr, OnOk, nat_eq};
+ghost use Rattle.cover_run.specs.Answer.{EarlyCause};
+ghost use Rattle.cover_run.specs.Covering.{HasCircuit, HasSignals, IsCoverOutput};
+ghost use Rattle.cover_run.specs.Files.{IsWithin};
+ghost use Rattle.cover_run.specs.Orders.{cover_call};
 ghost use Rattle.cover_run.specs.Report.{IsReport};
+ghost use Rattle.cover_run.specs.Stops.{UnlessTooLong};
+ghost use Rattle.cover_run.specs.Words.{Cover as CoverCommand};
 
 use crate::command::Cover;
 use crate::composing::compose;
 use crate::first_forms::{FormFault, read_circuit, read_signals};
-use crate::stop::{File, Stop, limit_of};
+use crate::output::Output;
+use crate::part::read_part;
+use crate::stop::{File, Stop};
 use crate::walk::zero_walk;
 use aig_model::{Circuit, Signals};
 use ketch_base::OutOfMemory;
 use report_text::{Options, text_of};
-use run_io::{Desk, ReadFault, read_file};
+use run_io::Desk;
 use std::alloc::Global;
-
-/// What a command writes, and whether it leaves nothing open.
-#[derive(Drop)]
-pub(crate) struct Output {
-    pub bytes: Vec<u8>,
-    pub settled: bool,
-}
-
-/// One file of a command, within its limit.
-fn read_part<D: Desk>(alloc: Global, desk: &mut D, file: File, name: &[u8]) -> Result<Vec<u8>, Stop>
-    ensures text { (n : List ℕ) → D.text desk.new n ≡ D.text desk.old n }
-    ensures counts { (n : List ℕ) → D.faults desk.old n ≤ D.faults desk.new n }
-    ensures whole { IfOk result (λ bytes. IfSome (D.text desk.old name.now) (λ text. bytes.items ≡ text)) }
-    ensures short { IfOk result (λ bytes. length bytes.items ≤ limit_of file) }
-    ensures read { OnOk result ((D.started desk.new ≡ Some name.now) × (D.given desk.new ≤ limit_of file)) }
-    ensures cause { IfErr result (PartCause
-        (D.faults desk.old name.now) (D.faults desk.new name.now) (D.text desk.old name.now) (D.started desk.new) (D.given desk.new) file name.now) }
-    ensures within { IfErr result (λ stop. UnlessTooLong stop
-        (IsLeftOrRead (D.started desk.old) (D.started desk.new) (D.given desk.old) (D.given desk.new) file name.now)) }
-{
-    match read_file(alloc, desk, name, limit_of(file)) {
-        Ok(bytes) => Ok(bytes),
-        Err(ReadFault::Failed) => Err(Stop::Unreadable(file)),
-        Err(ReadFault::TooLong) => Err(Stop::TooLong(file)),
-        Err(ReadFault::OutOfMemory) => Err(Stop::OutOfMemory),
-    }
-}
 
 /// The circuit and the signals of a command.
 fn read_both<D: Desk>(
@@ -52,12 +30,15 @@ fn read_both<D: Desk>(
 ) -> Result<(Circuit, Signals), Stop>
     ensures text { (n : List ℕ) → D.text desk.new n ≡ D.text desk.old n }
     ensures same { IfOk result (λ both. both.1.circuit ≡ both.0) }
-    ensures circuit { IfOk result (λ both. IfSome (D.text desk.old call.now.circuit.now) (IsCircuitText both.0)) }
-    ensures signals { IfOk result (λ both. IfSome (D.text desk.old call.now.signals.now) (IsSignalsText both.0 both.1.lits)) }
-    ensures read { OnOk result ((D.started desk.new ≡ Some call.now.signals.now) × (D.given desk.new ≤ 65536)) }
-    ensures cause { IfErr result (RefusalCause (call_of call.now)
+    ensures circuit { IfOk result (λ both. HasCircuit (cover_call call.now)
+        (record { text = D.text desk.old; faults = D.faults desk.old; faults_after = D.faults desk.new; started = D.started desk.old; started_after = D.started desk.new; given = D.given desk.old; given_after = D.given desk.new }) both.0) }
+    ensures signals { IfOk result (λ both. HasSignals (cover_call call.now)
+        (record { text = D.text desk.old; faults = D.faults desk.old; faults_after = D.faults desk.new; started = D.started desk.old; started_after = D.started desk.new; given = D.given desk.old; given_after = D.given desk.new }) both.0 both.1.lits) }
+    ensures cause { IfErr result (EarlyCause (CoverCommand (cover_call call.now))
         (record { text = D.text desk.old; faults = D.faults desk.old; faults_after = D.faults desk.new; started = D.started desk.old; started_after = D.started desk.new; given = D.given desk.old; given_after = D.given desk.new })) }
-    ensures within { IfErr result (λ stop. UnlessTooLong stop (IsWithin (call_of call.now)
+    ensures read { OnOk result (IsWithin (CoverCommand (cover_call call.now))
+        (record { text = D.text desk.old; faults = D.faults desk.old; faults_after = D.faults desk.new; started = D.started desk.old; started_after = D.started desk.new; given = D.given desk.old; given_after = D.given desk.new })) }
+    ensures within { IfErr result (λ stop. UnlessTooLong stop (IsWithin (CoverCommand (cover_call call.now))
         (record { text = D.text desk.old; faults = D.faults desk.old; faults_after = D.faults desk.new; started = D.started desk.old; started_after = D.started desk.new; given = D.given desk.old; given_after = D.given desk.new }))) }
 {
     let bytes = read_part(alloc, desk, File::Circuit, call.circuit)?;
@@ -96,13 +77,14 @@ fn report_of(
 /// What a cover command writes. Nothing is written yet.
 pub(crate) fn cover<D: Desk>(alloc: Global, desk: &mut D, call: &Cover<'_>) -> Result<Output, Stop>
     ensures text { (n : List ℕ) → D.text desk.new n ≡ D.text desk.old n }
-    ensures output { IfOk result (λ output. IsCoverOutput (call_of call.now)
+    ensures output { IfOk result (λ output. IsCoverOutput (cover_call call.now)
         (record { text = D.text desk.old; faults = D.faults desk.old; faults_after = D.faults desk.new; started = D.started desk.old; started_after = D.started desk.new; given = D.given desk.old; given_after = D.given desk.new })
         output.bytes.items output.settled) }
-    ensures cause { IfErr result (RefusalCause (call_of call.now)
+    ensures cause { IfErr result (EarlyCause (CoverCommand (cover_call call.now))
         (record { text = D.text desk.old; faults = D.faults desk.old; faults_after = D.faults desk.new; started = D.started desk.old; started_after = D.started desk.new; given = D.given desk.old; given_after = D.given desk.new })) }
-    ensures read { OnOk result ((D.started desk.new ≡ Some call.now.signals.now) × (D.given desk.new ≤ 65536)) }
-    ensures within { IfErr result (λ stop. UnlessTooLong stop (IsWithin (call_of call.now)
+    ensures read { OnOk result (IsWithin (CoverCommand (cover_call call.now))
+        (record { text = D.text desk.old; faults = D.faults desk.old; faults_after = D.faults desk.new; started = D.started desk.old; started_after = D.started desk.new; given = D.given desk.old; given_after = D.given desk.new })) }
+    ensures within { IfErr result (λ stop. UnlessTooLong stop (IsWithin (CoverCommand (cover_call call.now))
         (record { text = D.text desk.old; faults = D.faults desk.old; faults_after = D.faults desk.new; started = D.started desk.old; started_after = D.started desk.new; given = D.given desk.old; given_after = D.given desk.new }))) }
 {
     let (circuit, signals) = read_both(alloc, desk, call)?;

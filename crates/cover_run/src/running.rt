@@ -1,20 +1,46 @@
 //! The top call.
 
-ghost use Rattle.std.specs.Prelude.{◌≡◌, ◌≢◌, ◌↔◌, ℕ, List, IfOk, IfErr, false};
-ghost use Rattle.run_io.specs.Sink.{Grew, GrewByPrefix};
-ghost use Rattle.cover_run.specs.Words.{meaning, texts, Usage};
+ghost use Rattle.std.specs.Prelude.{◌≡◌, ◌↔◌, ℕ, List, IfOk, IfErr, OnOk, false};
+ghost use Rattle.cover_run.specs.Answer.{EarlyCause, IsOutput, IsAnswer, IsStopped, IsWhole};
+ghost use Rattle.cover_run.specs.Files.{IsWithin};
 ghost use Rattle.cover_run.specs.Orders.{command_of};
-ghost use Rattle.cover_run.specs.Answer.{IsAnswer, IsStopped, IsWhole, TookWhatItCould, Failed, is_late};
-ghost use Rattle.cover_run.specs.Promises.{Headline, Completeness, HasEnded, IsEarly, ReadFaultCause, BadCircuitCause, BadCircuitComes, BadSignalsCause, BadSignalsComes, LimitCause, WithinLimits, LongCircuitComes, LongSignalsComes, PrefixAfterFault, SaysLine};
+ghost use Rattle.cover_run.specs.Promises.{Headline, Completeness, AcceptedCause, AcceptedComes, HasEnded, IsEarly, ReadFaultCause, BadCircuitCause, BadCircuitComes, BadSignalsCause, BadSignalsComes, LimitCause, WithinLimits, LongCircuitComes, LongSignalsComes, LongFormulaComes, LongProofComes, RefusedCause, BadFormulaComes, BadProofComes, BadStepComes, PrefixAfterFault, SaysLine};
+ghost use Rattle.cover_run.specs.Seen.{Failed, TookWhatItCould};
+ghost use Rattle.cover_run.specs.Stops.{UnlessTooLong, is_late};
+ghost use Rattle.cover_run.specs.Words.{meaning, texts, Usage};
 
+use crate::checking::check;
 use crate::command::{Order, order_of};
-use crate::covering::{Output, cover};
+use crate::covering::cover;
 use crate::gate::Gate;
-use crate::stop::{Status, Stop, line_of, settled_status, status_of};
+use crate::line::line_of;
+use crate::output::Output;
+use crate::stop::{Status, Stop, settled_status, status_of};
 use run_io::{Desk, Sink, write_all};
 use std::alloc::Global;
 use std::marker::Sync;
 use std::thread::Threads;
+
+/// What the words ask to write. Nothing is written yet.
+fn output_of<D: Desk>(alloc: Global, order: &Order<'_>, desk: &mut D) -> Result<Output, Stop>
+    ensures text { (n : List ℕ) → D.text desk.new n ≡ D.text desk.old n }
+    ensures output { IfOk result (λ output. IsOutput (command_of order.now)
+        (record { text = D.text desk.old; faults = D.faults desk.old; faults_after = D.faults desk.new; started = D.started desk.old; started_after = D.started desk.new; given = D.given desk.old; given_after = D.given desk.new })
+        output.bytes.items output.settled) }
+    ensures cause { IfErr result (EarlyCause (command_of order.now)
+        (record { text = D.text desk.old; faults = D.faults desk.old; faults_after = D.faults desk.new; started = D.started desk.old; started_after = D.started desk.new; given = D.given desk.old; given_after = D.given desk.new })) }
+    ensures read { OnOk result (IsWithin (command_of order.now)
+        (record { text = D.text desk.old; faults = D.faults desk.old; faults_after = D.faults desk.new; started = D.started desk.old; started_after = D.started desk.new; given = D.given desk.old; given_after = D.given desk.new })) }
+    ensures within { IfErr result (λ stop. UnlessTooLong stop (IsWithin (command_of order.now)
+        (record { text = D.text desk.old; faults = D.faults desk.old; faults_after = D.faults desk.new; started = D.started desk.old; started_after = D.started desk.new; given = D.given desk.old; given_after = D.given desk.new }))) }
+    ensures not_called { command_of order.now ≡ Usage → desk.new ≡ desk.old }
+{
+    match order {
+        Order::Usage => Err(Stop::Usage),
+        Order::Cover(call) => cover(alloc, desk, call),
+        Order::Lrat(call) => check(alloc, desk, call),
+    }
+}
 
 /// Does what the words ask for: whether nothing is left open, or what stopped it.
 fn obey<D: Desk, O: Sink>(
@@ -33,15 +59,10 @@ fn obey<D: Desk, O: Sink>(
     ensures early { IfErr result (λ stop. is_late stop ≡ false → out.new ≡ out.old) }
     ensures not_called { command_of order.now ≡ Usage → desk.new ≡ desk.old }
 {
-    match order {
-        Order::Usage => Err(Stop::Usage),
-        Order::Cover(call) => {
-            let output = cover(alloc, desk, call)?;
-            match write_all(out, &output.bytes) {
-                Ok(()) => Ok(output.settled),
-                Err(_) => Err(Stop::CannotWrite),
-            }
-        }
+    let output = output_of(alloc, order, desk)?;
+    match write_all(out, &output.bytes) {
+        Ok(()) => Ok(output.settled),
+        Err(_) => Err(Stop::CannotWrite),
     }
 }
 
@@ -77,7 +98,8 @@ fn answer<D: Desk, O: Sink, E: Sink>(
     match obey(alloc, &order, desk, out) {
         Ok(settled) => settled_status(settled),
         Err(stop) => {
-            say(err, line_of(stop));
+            let line = line_of(stop);
+            say(err, line.as_str().as_bytes());
             status_of(stop)
         }
     }
@@ -101,6 +123,12 @@ pub fn run<R: Threads + Sync, D: Desk, O: Sink, E: Sink, G: Gate>(
     ensures completeness { Completeness (meaning (texts words.now))
         (record { text = D.text desk.old; faults = D.faults desk.old; faults_after = D.faults desk.new; started = D.started desk.old; started_after = D.started desk.new; given = D.given desk.old; given_after = D.given desk.new })
         (record { taken = O.taken out.old; taken_after = O.taken out.new; faults = O.faults out.old; faults_after = O.faults out.new; idle = O.idle out.old; idle_after = O.idle out.new }) result }
+    ensures accepted { AcceptedCause (meaning (texts words.now))
+        (record { text = D.text desk.old; faults = D.faults desk.old; faults_after = D.faults desk.new; started = D.started desk.old; started_after = D.started desk.new; given = D.given desk.old; given_after = D.given desk.new })
+        (record { taken = O.taken out.old; taken_after = O.taken out.new; faults = O.faults out.old; faults_after = O.faults out.new; idle = O.idle out.old; idle_after = O.idle out.new }) result }
+    ensures accepted_comes { AcceptedComes (meaning (texts words.now))
+        (record { text = D.text desk.old; faults = D.faults desk.old; faults_after = D.faults desk.new; started = D.started desk.old; started_after = D.started desk.new; given = D.given desk.old; given_after = D.given desk.new })
+        (record { taken = O.taken out.old; taken_after = O.taken out.new; faults = O.faults out.old; faults_after = O.faults out.new; idle = O.idle out.old; idle_after = O.idle out.new }) result }
 
     ensures usage { (result ≡ Status.Usage) ↔ (meaning (texts words.now) ≡ Usage) }
     ensures not_called { result ≡ Status.Usage → desk.new ≡ desk.old }
@@ -110,29 +138,52 @@ pub fn run<R: Threads + Sync, D: Desk, O: Sink, E: Sink, G: Gate>(
     ensures bad_circuit { BadCircuitCause (meaning (texts words.now))
         (record { text = D.text desk.old; faults = D.faults desk.old; faults_after = D.faults desk.new; started = D.started desk.old; started_after = D.started desk.new; given = D.given desk.old; given_after = D.given desk.new }) result }
     ensures bad_circuit_comes { BadCircuitComes (meaning (texts words.now))
-        (record { text = D.text desk.old; faults = D.faults desk.old; faults_after = D.faults desk.new; started = D.started desk.old; started_after = D.started desk.new; given = D.given desk.old; given_after = D.given desk.new }) result }
+        (record { text = D.text desk.old; faults = D.faults desk.old; faults_after = D.faults desk.new; started = D.started desk.old; started_after = D.started desk.new; given = D.given desk.old; given_after = D.given desk.new })
+        (record { taken = E.taken err.old; taken_after = E.taken err.new; faults = E.faults err.old; faults_after = E.faults err.new; idle = E.idle err.old; idle_after = E.idle err.new }) result }
     ensures bad_signals { BadSignalsCause (meaning (texts words.now))
         (record { text = D.text desk.old; faults = D.faults desk.old; faults_after = D.faults desk.new; started = D.started desk.old; started_after = D.started desk.new; given = D.given desk.old; given_after = D.given desk.new }) result }
     ensures bad_signals_comes { BadSignalsComes (meaning (texts words.now))
-        (record { text = D.text desk.old; faults = D.faults desk.old; faults_after = D.faults desk.new; started = D.started desk.old; started_after = D.started desk.new; given = D.given desk.old; given_after = D.given desk.new }) result }
+        (record { text = D.text desk.old; faults = D.faults desk.old; faults_after = D.faults desk.new; started = D.started desk.old; started_after = D.started desk.new; given = D.given desk.old; given_after = D.given desk.new })
+        (record { taken = E.taken err.old; taken_after = E.taken err.new; faults = E.faults err.old; faults_after = E.faults err.new; idle = E.idle err.old; idle_after = E.idle err.new }) result }
     ensures limit { LimitCause (meaning (texts words.now))
         (record { text = D.text desk.old; faults = D.faults desk.old; faults_after = D.faults desk.new; started = D.started desk.old; started_after = D.started desk.new; given = D.given desk.old; given_after = D.given desk.new })
         (record { taken = E.taken err.old; taken_after = E.taken err.new; faults = E.faults err.old; faults_after = E.faults err.new; idle = E.idle err.old; idle_after = E.idle err.new }) result }
     ensures within_limits { WithinLimits (meaning (texts words.now))
         (record { text = D.text desk.old; faults = D.faults desk.old; faults_after = D.faults desk.new; started = D.started desk.old; started_after = D.started desk.new; given = D.given desk.old; given_after = D.given desk.new }) result }
     ensures long_circuit_comes { LongCircuitComes (meaning (texts words.now))
-        (record { text = D.text desk.old; faults = D.faults desk.old; faults_after = D.faults desk.new; started = D.started desk.old; started_after = D.started desk.new; given = D.given desk.old; given_after = D.given desk.new }) result }
+        (record { text = D.text desk.old; faults = D.faults desk.old; faults_after = D.faults desk.new; started = D.started desk.old; started_after = D.started desk.new; given = D.given desk.old; given_after = D.given desk.new })
+        (record { taken = E.taken err.old; taken_after = E.taken err.new; faults = E.faults err.old; faults_after = E.faults err.new; idle = E.idle err.old; idle_after = E.idle err.new }) result }
     ensures long_signals_comes { LongSignalsComes (meaning (texts words.now))
-        (record { text = D.text desk.old; faults = D.faults desk.old; faults_after = D.faults desk.new; started = D.started desk.old; started_after = D.started desk.new; given = D.given desk.old; given_after = D.given desk.new }) result }
+        (record { text = D.text desk.old; faults = D.faults desk.old; faults_after = D.faults desk.new; started = D.started desk.old; started_after = D.started desk.new; given = D.given desk.old; given_after = D.given desk.new })
+        (record { taken = E.taken err.old; taken_after = E.taken err.new; faults = E.faults err.old; faults_after = E.faults err.new; idle = E.idle err.old; idle_after = E.idle err.new }) result }
+    ensures long_formula_comes { LongFormulaComes (meaning (texts words.now))
+        (record { text = D.text desk.old; faults = D.faults desk.old; faults_after = D.faults desk.new; started = D.started desk.old; started_after = D.started desk.new; given = D.given desk.old; given_after = D.given desk.new })
+        (record { taken = E.taken err.old; taken_after = E.taken err.new; faults = E.faults err.old; faults_after = E.faults err.new; idle = E.idle err.old; idle_after = E.idle err.new }) result }
+    ensures long_proof_comes { LongProofComes (meaning (texts words.now))
+        (record { text = D.text desk.old; faults = D.faults desk.old; faults_after = D.faults desk.new; started = D.started desk.old; started_after = D.started desk.new; given = D.given desk.old; given_after = D.given desk.new })
+        (record { taken = E.taken err.old; taken_after = E.taken err.new; faults = E.faults err.old; faults_after = E.faults err.new; idle = E.idle err.old; idle_after = E.idle err.new }) result }
     ensures write_fault { result ≡ Status.WriteFault → Failed
         (record { taken = O.taken out.old; taken_after = O.taken out.new; faults = O.faults out.old; faults_after = O.faults out.new; idle = O.idle out.old; idle_after = O.idle out.new }) }
-    ensures not_refused { result ≢ Status.Refused }
+    ensures refused { RefusedCause (meaning (texts words.now))
+        (record { text = D.text desk.old; faults = D.faults desk.old; faults_after = D.faults desk.new; started = D.started desk.old; started_after = D.started desk.new; given = D.given desk.old; given_after = D.given desk.new })
+        (record { taken = E.taken err.old; taken_after = E.taken err.new; faults = E.faults err.old; faults_after = E.faults err.new; idle = E.idle err.old; idle_after = E.idle err.new }) result }
+    ensures bad_formula_comes { BadFormulaComes (meaning (texts words.now))
+        (record { text = D.text desk.old; faults = D.faults desk.old; faults_after = D.faults desk.new; started = D.started desk.old; started_after = D.started desk.new; given = D.given desk.old; given_after = D.given desk.new })
+        (record { taken = E.taken err.old; taken_after = E.taken err.new; faults = E.faults err.old; faults_after = E.faults err.new; idle = E.idle err.old; idle_after = E.idle err.new }) result }
+    ensures bad_proof_comes { BadProofComes (meaning (texts words.now))
+        (record { text = D.text desk.old; faults = D.faults desk.old; faults_after = D.faults desk.new; started = D.started desk.old; started_after = D.started desk.new; given = D.given desk.old; given_after = D.given desk.new })
+        (record { taken = E.taken err.old; taken_after = E.taken err.new; faults = E.faults err.old; faults_after = E.faults err.new; idle = E.idle err.old; idle_after = E.idle err.new }) result }
+    ensures bad_step_comes { BadStepComes (meaning (texts words.now))
+        (record { text = D.text desk.old; faults = D.faults desk.old; faults_after = D.faults desk.new; started = D.started desk.old; started_after = D.started desk.new; given = D.given desk.old; given_after = D.given desk.new })
+        (record { taken = E.taken err.old; taken_after = E.taken err.new; faults = E.faults err.old; faults_after = E.faults err.new; idle = E.idle err.old; idle_after = E.idle err.new }) result }
 
     ensures untouched { IsEarly result → out.new ≡ out.old }
     ensures prefix_after_fault { PrefixAfterFault (meaning (texts words.now))
         (record { text = D.text desk.old; faults = D.faults desk.old; faults_after = D.faults desk.new; started = D.started desk.old; started_after = D.started desk.new; given = D.given desk.old; given_after = D.given desk.new })
         (record { taken = O.taken out.old; taken_after = O.taken out.new; faults = O.faults out.old; faults_after = O.faults out.new; idle = O.idle out.old; idle_after = O.idle out.new }) result }
-    ensures line { SaysLine
+    ensures line { SaysLine (meaning (texts words.now))
+        (record { text = D.text desk.old; faults = D.faults desk.old; faults_after = D.faults desk.new; started = D.started desk.old; started_after = D.started desk.new; given = D.given desk.old; given_after = D.given desk.new })
+        (record { taken = O.taken out.old; taken_after = O.taken out.new; faults = O.faults out.old; faults_after = O.faults out.new; idle = O.idle out.old; idle_after = O.idle out.new })
         (record { taken = E.taken err.old; taken_after = E.taken err.new; faults = E.faults err.old; faults_after = E.faults err.new; idle = E.idle err.old; idle_after = E.idle err.new }) result }
     ensures quiet { HasEnded result → err.new ≡ err.old }
     ensures texts_stay { (n : List ℕ) → D.text desk.new n ≡ D.text desk.old n }

@@ -1,15 +1,36 @@
-//! What ends a run, and what the user sees of it.
+//! What ends a run, and its status.
 
 ghost use Rattle.std.specs.Prelude.{◌≡◌};
-ghost use Rattle.cover_run.specs.Answer.{status_of, line_of, settled_status, limit_of};
+ghost use Rattle.cover_run.specs.Files.{limit_of};
+ghost use Rattle.cover_run.specs.Stops.{status_of, settled_status};
 
+use cnf_base::DimacsKind;
 use ketch_base::OutOfMemory;
+use lrat_check::ProofKind;
+use lrat_text::LratKind;
 
 /// A file that a command reads.
 #[derive(Clone, Copy, Debug, PartialEq, Eq)]
 pub enum File {
     Circuit,
     Signals,
+    Formula,
+    Proof,
+}
+
+/// A number of the input that has a limit.
+#[derive(Clone, Copy, Debug, PartialEq, Eq)]
+pub enum Measure {
+    /// The numbers of variables and clauses that a formula's header states.
+    Formula,
+}
+
+/// What is wrong first with a proof that isn't accepted. Lines and steps count from 1.
+#[derive(Clone, Copy, Debug, PartialEq, Eq)]
+pub enum Refusal {
+    Formula { line: u32, kind: DimacsKind },
+    Proof { line: u32, kind: LratKind },
+    Step { step: u64, kind: ProofKind },
 }
 
 /// What stops a run before its output is whole.
@@ -18,8 +39,10 @@ pub enum Stop {
     Usage,
     Unreadable(File),
     TooLong(File),
+    TooLarge(Measure),
     BadCircuit,
     BadSignals,
+    Refused(Refusal),
     CannotWrite,
     OutOfMemory,
 }
@@ -56,6 +79,7 @@ pub(crate) fn limit_of(file: File) -> u64
     match file {
         File::Circuit => 67_108_864,
         File::Signals => 65_536,
+        File::Formula | File::Proof => 268_435_456,
     }
 }
 
@@ -65,9 +89,10 @@ pub(crate) fn status_of(stop: Stop) -> Status
     match stop {
         Stop::Usage => Status::Usage,
         Stop::Unreadable(_) => Status::ReadFault,
-        Stop::TooLong(_) => Status::Limit,
+        Stop::TooLong(_) | Stop::TooLarge(_) => Status::Limit,
         Stop::BadCircuit => Status::BadCircuit,
         Stop::BadSignals => Status::BadSignals,
+        Stop::Refused(_) => Status::Refused,
         Stop::CannotWrite => Status::WriteFault,
         Stop::OutOfMemory => Status::WantOfMemory,
     }
@@ -80,21 +105,5 @@ pub(crate) fn settled_status(settled: bool) -> Status
         Status::Settled
     } else {
         Status::Open
-    }
-}
-
-pub(crate) fn line_of(stop: Stop) -> &'static [u8]
-    ensures { result.now ≡ line_of stop }
-{
-    match stop {
-        Stop::Usage => b"ketch: usage: ketch cover|check|goals|replay|lrat|make ..\n",
-        Stop::Unreadable(File::Circuit) => b"ketch: cannot read circuit\n",
-        Stop::Unreadable(File::Signals) => b"ketch: cannot read signals\n",
-        Stop::TooLong(File::Circuit) => b"ketch: limit: circuit\n",
-        Stop::TooLong(File::Signals) => b"ketch: limit: signals\n",
-        Stop::BadCircuit => b"ketch: circuit at 0: NotBuilt\n",
-        Stop::BadSignals => b"ketch: signals line 0: NotBuilt\n",
-        Stop::CannotWrite => b"ketch: cannot write\n",
-        Stop::OutOfMemory => b"ketch: out of memory\n",
     }
 }

@@ -8,4 +8,6 @@ pub use setting::{Outcome, Setting};
 #[cfg(test)]
 mod devices;
 #[cfg(test)]
+mod lrat_rows;
+#[cfg(test)]
 mod rows;

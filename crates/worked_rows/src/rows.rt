@@ -98,23 +98,20 @@ fn refusals(rt: HostRuntime) -> Result<(), Fail> {
 /// The desk isn't called: its first call would fail, and that would be another status.
 #[test]
 fn usage(rt: HostRuntime) -> Result<(), Fail> {
-    let rows: [&[&[u8]]; 6] = [
+    let rows: [&[&[u8]]; 9] = [
         &[],
         &[b"cover"],
-        &[b"cover", b"c"],
-        &[b"cover", b"c", b"-s"],
-        &[b"cover", b"c", b"s", b"t"],
-        &[b"hover", b"c", b"s"],
+        &[b"cover", b"a"],
+        &[b"cover", b"a", b"-b"],
+        &[b"cover", b"a", b"b", b"c"],
+        &[b"hover", b"a", b"b"],
+        &[b"lrat", b"a"],
+        &[b"lrat", b"", b"b"],
+        &[b"lrat", b"a", b"b", b"c"],
     ];
     for words in rows {
-        let setting = Setting {
-            words,
-            circuit: TOGGLE,
-            signals: b"l0\n",
-            desk_fails: Some(1),
-            sink_fails: None,
-            most: 65_536,
-        };
+        let mut setting = Setting::new(words, TOGGLE, b"l0\n");
+        setting.desk_fails = Some(1);
         let outcome = setting.run(&rt, rt.alloc())?;
         assert_eq!(rt; outcome.status, Status::Usage);
         assert!(rt; outcome.out.is_empty());

@@ -7,12 +7,12 @@ use std::alloc::{AllocError, Global};
 use std::marker::Sync;
 use std::thread::Threads;
 
-/// The words of a run, its two files, and which calls of its devices fail, counted from 1.
+/// The words of a run, the files `a` and `b`, and which calls of its devices fail, counted from 1.
 #[derive(Drop)]
 pub struct Setting<'a> {
     pub words: &'a [&'a [u8]],
-    pub circuit: &'a [u8],
-    pub signals: &'a [u8],
+    pub first: &'a [u8],
+    pub second: &'a [u8],
     pub desk_fails: Option<u64>,
     pub sink_fails: Option<u64>,
     /// How many bytes a write takes at most.
@@ -45,23 +45,31 @@ fn file(alloc: Global, name: &[u8], bytes: &[u8]) -> Result<FileText, AllocError
 }
 
 impl<'a> Setting<'a> {
-    /// `cover c s` over these two files, with devices that don't fail.
-    pub fn cover(circuit: &'a [u8], signals: &'a [u8]) -> Setting<'a> {
+    /// These words over these two files, with devices that don't fail.
+    pub fn new(words: &'a [&'a [u8]], first: &'a [u8], second: &'a [u8]) -> Setting<'a> {
         Setting {
-            words: &[b"cover", b"c", b"s"],
-            circuit,
-            signals,
+            words,
+            first,
+            second,
             desk_fails: None,
             sink_fails: None,
             most: ROOM,
         }
     }
 
-    /// Runs over the files `c` and `s`.
+    pub fn cover(circuit: &'a [u8], signals: &'a [u8]) -> Setting<'a> {
+        Setting::new(&[b"cover", b"a", b"b"], circuit, signals)
+    }
+
+    pub fn lrat(formula: &'a [u8], proof: &'a [u8]) -> Setting<'a> {
+        Setting::new(&[b"lrat", b"a", b"b"], formula, proof)
+    }
+
+    /// Runs over the two files.
     pub fn run<R: Threads + Sync>(&self, rt: &R, alloc: Global) -> Result<Outcome, OutOfMemory> {
         let files = vec![in alloc;
-            file(alloc, b"c", self.circuit)?,
-            file(alloc, b"s", self.signals)?,
+            file(alloc, b"a", self.first)?,
+            file(alloc, b"b", self.second)?,
         ]?;
         let mut desk = MemoryDesk::new(alloc, files, listed(alloc, self.desk_fails)?)?;
         let mut out = MemorySink::new(alloc, ROOM, self.most, listed(alloc, self.sink_fails)?)?;

@@ -1,8 +1,13 @@
-use Rattle.std.proofs.Common.{◌≡◌, sym, ap, subst, List, ℕ, Option, IfSome, Err, length, ◌≤◌}
+use Rattle.std.proofs.Common.{◌≡◌, refl, sym, ap, subst, List, ℕ, Option, IfSome, Err, length, ◌≤◌}
+use Rattle.std.proofs.lemmas.Result.{err_from_is_err_and}
 use Rattle.aig_model.specs.declared.parts.Parts.{Parts}
 use Rattle.cover_run.specs.FirstForms.{SpellsCircuit, SpellsSignals}
-use Rattle.cover_run.specs.Answer.{IsCircuitText, IsNoCircuit, IsNoSignals, limit_of}
+use Rattle.cover_run.specs.Covering.{IsCircuitText, IsNoCircuit, IsNoSignals}
+use Rattle.cover_run.specs.Files.{limit_of}
 use Rattle.cover_run.specs.declared.stop.File.TheVariants as files
+use Rattle.cover_run.specs.Orders.{cover_call}
+use Rattle.cover_run.specs.Words.{Cover}
+use Rattle.cover_run.proofs.Reading.{second_within, unless-map}
 use Rattle.cover_run.proofs.WhereTold.{IfSome-map}
 use Rattle.cover_run.proofs.covering.read_both.Goals as goal
 
@@ -42,3 +47,9 @@ returns-in-Err-NotBuilt-read_signals-clause-cause g c =
           (c.in-Err-NotBuilt-read_signals.ensures.not_built (ap Err c.in-Err-NotBuilt-read_signals.field-0-is)) same)
           told,
     )
+
+pub returns-in_err-bytes-2-clause-within : goal.returns-in_err-bytes-2-clause-within
+returns-in_err-bytes-2-clause-within g c =
+    let p = err_from_is_err_and c.from_residual-in_err-bytes-2.result c.from_residual-in_err-bytes-2.ensures.1 in
+    rw (p.1, p.2) (unless-map _ _ _ (second_within (Cover (cover_call c.args.call.now)) _ _ files.Circuit files.Signals _ _ refl refl refl refl c.in_ok-bytes.ensures.read)
+    c.in_err-bytes-2.ensures.within)

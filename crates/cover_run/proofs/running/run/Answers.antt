@@ -1,11 +1,19 @@
+use Rattle.cover_run.proofs.CoverPromised as cover
+use Rattle.cover_run.proofs.LratPromised as lrat
 use Rattle.cover_run.proofs.Promised as promised
 use Rattle.cover_run.proofs.running.run.Goals as goal
 
 pub returns-clause-headline : goal.returns-clause-headline
-returns-clause-headline g c = promised.headline _ _ _ _ _ c.answer.ensures.answer
+returns-clause-headline g c = cover.headline _ _ _ _ _ c.answer.ensures.answer
 
 pub returns-clause-completeness : goal.returns-clause-completeness
-returns-clause-completeness g c = promised.completeness _ _ _ _ _ c.answer.ensures.answer
+returns-clause-completeness g c = cover.completeness _ _ _ _ _ c.answer.ensures.answer
+
+pub returns-clause-accepted : goal.returns-clause-accepted
+returns-clause-accepted g c = lrat.accepted_cause _ _ _ _ _ c.answer.ensures.answer
+
+pub returns-clause-accepted_comes : goal.returns-clause-accepted_comes
+returns-clause-accepted_comes g c = lrat.accepted_comes _ _ _ _ _ c.answer.ensures.answer
 
 pub returns-clause-usage : goal.returns-clause-usage
 returns-clause-usage g c = promised.usage _ _ _ _ _ c.answer.ensures.answer
@@ -17,13 +25,13 @@ pub returns-clause-bad_circuit : goal.returns-clause-bad_circuit
 returns-clause-bad_circuit g c = promised.bad_circuit _ _ _ _ _ c.answer.ensures.answer
 
 pub returns-clause-bad_circuit_comes : goal.returns-clause-bad_circuit_comes
-returns-clause-bad_circuit_comes g c = promised.bad_circuit_comes _ _ _ _ _ c.answer.ensures.answer
+returns-clause-bad_circuit_comes g c = cover.bad_circuit_comes _ _ _ _ _ c.answer.ensures.answer
 
 pub returns-clause-bad_signals : goal.returns-clause-bad_signals
 returns-clause-bad_signals g c = promised.bad_signals _ _ _ _ _ c.answer.ensures.answer
 
 pub returns-clause-bad_signals_comes : goal.returns-clause-bad_signals_comes
-returns-clause-bad_signals_comes g c = promised.bad_signals_comes _ _ _ _ _ c.answer.ensures.answer
+returns-clause-bad_signals_comes g c = cover.bad_signals_comes _ _ _ _ _ c.answer.ensures.answer
 
 pub returns-clause-limit : goal.returns-clause-limit
 returns-clause-limit g c = promised.limit _ _ _ _ _ c.answer.ensures.answer
@@ -32,16 +40,31 @@ pub returns-clause-within_limits : goal.returns-clause-within_limits
 returns-clause-within_limits g c = promised.within_limits _ _ _ _ _ c.answer.ensures.answer
 
 pub returns-clause-long_circuit_comes : goal.returns-clause-long_circuit_comes
-returns-clause-long_circuit_comes g c = promised.long_circuit_comes _ _ _ _ _ c.answer.ensures.answer
+returns-clause-long_circuit_comes g c = cover.long_circuit_comes _ _ _ _ _ c.answer.ensures.answer
 
 pub returns-clause-long_signals_comes : goal.returns-clause-long_signals_comes
-returns-clause-long_signals_comes g c = promised.long_signals_comes _ _ _ _ _ c.answer.ensures.answer
+returns-clause-long_signals_comes g c = cover.long_signals_comes _ _ _ _ _ c.answer.ensures.answer
+
+pub returns-clause-long_formula_comes : goal.returns-clause-long_formula_comes
+returns-clause-long_formula_comes g c = lrat.long_formula_comes _ _ _ _ _ c.answer.ensures.answer
+
+pub returns-clause-long_proof_comes : goal.returns-clause-long_proof_comes
+returns-clause-long_proof_comes g c = lrat.long_proof_comes _ _ _ _ _ c.answer.ensures.answer
 
 pub returns-clause-write_fault : goal.returns-clause-write_fault
 returns-clause-write_fault g c = promised.write_fault _ _ _ _ _ c.answer.ensures.answer
 
-pub returns-clause-not_refused : goal.returns-clause-not_refused
-returns-clause-not_refused g c = promised.not_refused _ _ _ _ _ c.answer.ensures.answer
+pub returns-clause-refused : goal.returns-clause-refused
+returns-clause-refused g c = promised.refused _ _ _ _ _ c.answer.ensures.answer
+
+pub returns-clause-bad_formula_comes : goal.returns-clause-bad_formula_comes
+returns-clause-bad_formula_comes g c = lrat.bad_formula_comes _ _ _ _ _ c.answer.ensures.answer
+
+pub returns-clause-bad_proof_comes : goal.returns-clause-bad_proof_comes
+returns-clause-bad_proof_comes g c = lrat.bad_proof_comes _ _ _ _ _ c.answer.ensures.answer
+
+pub returns-clause-bad_step_comes : goal.returns-clause-bad_step_comes
+returns-clause-bad_step_comes g c = lrat.bad_step_comes _ _ _ _ _ c.answer.ensures.answer
 
 pub returns-clause-prefix_after_fault : goal.returns-clause-prefix_after_fault
 returns-clause-prefix_after_fault g c = promised.prefix_after_fault _ _ _ _ _ c.answer.ensures.answer

@@ -1,0 +1,218 @@
+-- What the answer of a cover command promises.
+use Rattle.std.proofs.Common.{◌≡◌, ◌↔◌, ℕ, ◌<◌, ◌≤◌, Bool, true, false, List, length, Some, inl, inr, refl, sym, ◌∙◌, ap, subst, arith, nat_eq}
+use Rattle.std.specs.Prelude.{◌⊎◌}
+use Rattle.std.proofs.lemmas.Bool.Decides.{nat_tests}
+use Rattle.aig_model.specs.declared.parts.Parts.{Parts}
+use Rattle.report_text.specs.declared.report.GoalBlock.TheVariants as blocks
+use Rattle.cover_run.specs.declared.stop.File.TheVariants as files
+use Rattle.cover_run.specs.declared.stop.Stop.{Stop}
+use Rattle.cover_run.specs.declared.stop.Stop.TheVariants as stops
+use Rattle.cover_run.specs.declared.stop.Status.{Status}
+use Rattle.cover_run.specs.declared.stop.Status.TheVariants as statuses
+use Rattle.cover_run.specs.Answer.{IsOutput, IsAnswer, Cause}
+use Rattle.cover_run.specs.Covering.{IsCircuitText, IsSignalsText, IsNoCircuit, IsNoSignals, HasCircuit, HasSignals, HasSomeCircuit, RefusesCircuit, RefusesSignals, IsCoverOutput}
+use Rattle.cover_run.specs.Files.{limit_of, IsTooLong}
+use Rattle.cover_run.specs.FirstForms.{SpellsCircuit, SpellsSignals}
+use Rattle.cover_run.specs.Promises.{IsTold, IsToldTooLong, Accepts, IsUndisturbed, IsCovered, SettlesAsked, Headline, Completeness, BadCircuitComes, BadSignalsComes, LongCircuitComes, LongSignalsComes}
+use Rattle.cover_run.specs.Report.{IsReport}
+use Rattle.cover_run.specs.Seen.{DeskSeen, SinkSeen, HasFaulted, Failed, Took}
+use Rattle.cover_run.specs.Stops.{status_of, settled_status}
+use Rattle.cover_run.specs.Words.{CoverCall, Command, Cover}
+use Rattle.cover_run.proofs.WhereTold.{IfSome-at}
+use Rattle.cover_run.proofs.CircuitText.{one_circuit}
+use Rattle.cover_run.proofs.SignalText.{one_signals}
+use Rattle.cover_run.proofs.Promised.{told_long, settled_either, not_ended, stopped_so}
+use Rattle.cover_run.proofs.Stopped.{CoverStops, circuit_unreadable, circuit_long, bad_circuit, signals_unreadable, signals_long, bad_signals, not_written, memory, cover_stops}
+
+cover_output : (command : Command) (call : CoverCall) (d : DeskSeen) (bytes : List ℕ) (settled : Bool) → command ≡ Cover call → IsOutput command d bytes settled → IsCoverOutput call d bytes settled
+cover_output command call d bytes settled e o = subst (λ (x : Command). IsOutput x d bytes settled) e o
+
+stops_of : (command : Command) (call : CoverCall) (d : DeskSeen) (out : SinkSeen) (stop : Stop) → command ≡ Cover call → Cause command d out stop → CoverStops call d out stop
+stops_of command call d out stop e cause = cover_stops call d out stop (subst (λ (x : Command). Cause x d out stop) e cause)
+
+-- ---- the circuit that is told is the one meant
+told_circuit : (call : CoverCall) (d : DeskSeen) (c : Parts) (t : List ℕ) → d.text call.circuit ≡ Some t → HasCircuit call d c → SpellsCircuit t c
+told_circuit call d c t told has = (IfSome-at (IsCircuitText c) (d.text call.circuit) t told has).spells
+
+told_none : (call : CoverCall) (d : DeskSeen) (t : List ℕ) → d.text call.circuit ≡ Some t → ((c : Parts) → ¬ SpellsCircuit t c) → HasSomeCircuit call d → ⊥
+told_none call d t told none some = none some.0 (told_circuit call d some.0 t told some.1)
+
+told_refused : (call : CoverCall) (d : DeskSeen) (t : List ℕ) (c : Parts) → d.text call.circuit ≡ Some t → SpellsCircuit t c → RefusesCircuit call d → ⊥
+told_refused call d t c told spells refused = (IfSome-at IsNoCircuit (d.text call.circuit) t told refused).none c spells
+
+same_told : (call : CoverCall) (d : DeskSeen) (t : List ℕ) (c e : Parts) → d.text call.circuit ≡ Some t → SpellsCircuit t c → HasCircuit call d e → e ≡ c
+same_told call d t c e told spells has = one_circuit t e c (told_circuit call d e t told has) spells
+
+signals_spelled : (call : CoverCall) (d : DeskSeen) (t u : List ℕ) (c e : Parts) (sig : List ℕ) → d.text call.circuit ≡ Some t → SpellsCircuit t c → d.text call.signals ≡ Some u
+    → HasCircuit call d e → HasSignals call d e sig → IsSignalsText c sig u
+signals_spelled call d t u c e sig told spells told_u has has_signals =
+    subst (λ (x : Parts). IsSignalsText x sig u) (same_told call d t c e told spells has) (IfSome-at (IsSignalsText e sig) (d.text call.signals) u told_u has_signals)
+
+signals_none : (call : CoverCall) (d : DeskSeen) (t u : List ℕ) (c : Parts) → d.text call.circuit ≡ Some t → SpellsCircuit t c → d.text call.signals ≡ Some u
+    → RefusesSignals call d → IsNoSignals c u
+signals_none call d t u c told spells told_u (e, has, none) =
+    subst (λ (x : Parts). IsNoSignals x u) (same_told call d t c e told spells has) (IfSome-at (IsNoSignals e) (d.text call.signals) u told_u none)
+
+-- ---- the refusals of the circuit come
+no_circuit_stops : (call : CoverCall) (d : DeskSeen) (out : SinkSeen) (stop : Stop) (t : List ℕ) → IsTold d files.Circuit call.circuit t → ((c : Parts) → ¬ SpellsCircuit t c)
+    → CoverStops call d out stop → (stop ≡ stops.BadCircuit) ⊎ (stop ≡ stops.OutOfMemory)
+no_circuit_stops call d out stop t told none (circuit_unreadable e h) = absurd (told.no_fault h)
+no_circuit_stops call d out stop t told none (circuit_long e h) = absurd (told_long d files.Circuit call.circuit t told.told told.short h)
+no_circuit_stops call d out stop t told none (bad_circuit e h) = inl e
+no_circuit_stops call d out stop t told none (signals_unreadable e has h) = absurd (told_none call d t told.told none has)
+no_circuit_stops call d out stop t told none (signals_long e has h) = absurd (told_none call d t told.told none has)
+no_circuit_stops call d out stop t told none (bad_signals e h) = absurd (told_none call d t told.told none (h.0, h.1))
+no_circuit_stops call d out stop t told none (not_written e h bytes settled o) = absurd (told_none call d t told.told none (o.circuit, o.has_circuit))
+no_circuit_stops call d out stop t told none (memory e) = inr e
+
+pub bad_circuit_comes : (command : Command) (d : DeskSeen) (out err : SinkSeen) (status : Status) → IsAnswer command d out err status → BadCircuitComes command d err status
+bad_circuit_comes command d out err status (inl w) call t e told none =
+    let o = cover_output command call d w.whole.bytes w.settled e w.whole.output in
+    absurd (told_none call d t told.told none (o.circuit, o.has_circuit))
+bad_circuit_comes command d out err status (inr s) call t e told none =
+    stopped_so command d out err status stops.BadCircuit s (no_circuit_stops call d out s.stop t told none (stops_of command call d out s.stop e s.stopped.cause))
+
+too_long_none : (call : CoverCall) (d : DeskSeen) (t : List ℕ) (c : Parts) → IsToldTooLong d files.Circuit call.circuit t → HasCircuit call d c → ⊥
+too_long_none call d t c long has =
+    let short : length t ≤ limit_of files.Circuit = (IfSome-at (IsCircuitText c) (d.text call.circuit) t long.told has).short in
+    let past : limit_of files.Circuit < length t = long.long in
+    omega arith
+
+too_long_refused : (call : CoverCall) (d : DeskSeen) (t : List ℕ) → IsToldTooLong d files.Circuit call.circuit t → RefusesCircuit call d → ⊥
+too_long_refused call d t long none =
+    let short : length t ≤ limit_of files.Circuit = (IfSome-at IsNoCircuit (d.text call.circuit) t long.told none).short in
+    let past : limit_of files.Circuit < length t = long.long in
+    omega arith
+
+long_circuit_stops : (call : CoverCall) (d : DeskSeen) (out : SinkSeen) (stop : Stop) (t : List ℕ) → IsToldTooLong d files.Circuit call.circuit t → CoverStops call d out stop
+    → (stop ≡ stops.TooLong files.Circuit) ⊎ (stop ≡ stops.OutOfMemory)
+long_circuit_stops call d out stop t long (circuit_unreadable e h) = absurd (long.no_fault h)
+long_circuit_stops call d out stop t long (circuit_long e h) = inl e
+long_circuit_stops call d out stop t long (bad_circuit e h) = absurd (too_long_refused call d t long h)
+long_circuit_stops call d out stop t long (signals_unreadable e has h) = absurd (too_long_none call d t has.0 long has.1)
+long_circuit_stops call d out stop t long (signals_long e has h) = absurd (too_long_none call d t has.0 long has.1)
+long_circuit_stops call d out stop t long (bad_signals e h) = absurd (too_long_none call d t h.0 long h.1)
+long_circuit_stops call d out stop t long (not_written e h bytes settled o) = absurd (too_long_none call d t o.circuit long o.has_circuit)
+long_circuit_stops call d out stop t long (memory e) = inr e
+
+pub long_circuit_comes : (command : Command) (d : DeskSeen) (out err : SinkSeen) (status : Status) → IsAnswer command d out err status → LongCircuitComes command d err status
+long_circuit_comes command d out err status (inl w) call t e long =
+    let o = cover_output command call d w.whole.bytes w.settled e w.whole.output in
+    absurd (too_long_none call d t o.circuit long o.has_circuit)
+long_circuit_comes command d out err status (inr s) call t e long =
+    stopped_so command d out err status (stops.TooLong files.Circuit) s (long_circuit_stops call d out s.stop t long (stops_of command call d out s.stop e s.stopped.cause))
+
+-- ---- with a circuit that is accepted, what is left
+data SignalsStops (call : CoverCall) (d : DeskSeen) (out : SinkSeen) (c : Parts) (stop : Stop) : Type 0 where
+  unreadable : HasFaulted d call.signals → SignalsStops call d out c stop
+  long : stop ≡ stops.TooLong files.Signals → IsTooLong d files.Signals call.signals → SignalsStops call d out c stop
+  refused : stop ≡ stops.BadSignals → RefusesSignals call d → SignalsStops call d out c stop
+  written : Failed out → (bytes : List ℕ) (settled : Bool) → IsCoverOutput call d bytes settled → SignalsStops call d out c stop
+  short_of_memory : stop ≡ stops.OutOfMemory → SignalsStops call d out c stop
+
+after_circuit : (call : CoverCall) (d : DeskSeen) (out : SinkSeen) (stop : Stop) (t : List ℕ) (c : Parts) → IsTold d files.Circuit call.circuit t → SpellsCircuit t c
+    → CoverStops call d out stop → SignalsStops call d out c stop
+after_circuit call d out stop t c told spells (circuit_unreadable e h) = absurd (told.no_fault h)
+after_circuit call d out stop t c told spells (circuit_long e h) = absurd (told_long d files.Circuit call.circuit t told.told told.short h)
+after_circuit call d out stop t c told spells (bad_circuit e h) = absurd (told_refused call d t c told.told spells h)
+after_circuit call d out stop t c told spells (signals_unreadable e has h) = unreadable h
+after_circuit call d out stop t c told spells (signals_long e has h) = long e h
+after_circuit call d out stop t c told spells (bad_signals e h) = refused e h
+after_circuit call d out stop t c told spells (not_written e h bytes settled o) = written h bytes settled o
+after_circuit call d out stop t c told spells (memory e) = short_of_memory e
+
+no_signals_stops : (call : CoverCall) (d : DeskSeen) (out : SinkSeen) (stop : Stop) (t u : List ℕ) (c : Parts) → IsTold d files.Circuit call.circuit t → SpellsCircuit t c
+    → IsTold d files.Signals call.signals u → ((sig : List ℕ) → ¬ SpellsSignals c u sig) → SignalsStops call d out c stop
+    → (stop ≡ stops.BadSignals) ⊎ (stop ≡ stops.OutOfMemory)
+no_signals_stops call d out stop t u c told spells also none (unreadable h) = absurd (also.no_fault h)
+no_signals_stops call d out stop t u c told spells also none (long e h) = absurd (told_long d files.Signals call.signals u also.told also.short h)
+no_signals_stops call d out stop t u c told spells also none (refused e h) = inl e
+no_signals_stops call d out stop t u c told spells also none (written h bytes settled o) =
+    absurd (none o.signals (signals_spelled call d t u c o.circuit o.signals told.told spells also.told o.has_circuit o.has_signals).spells)
+no_signals_stops call d out stop t u c told spells also none (short_of_memory e) = inr e
+
+pub bad_signals_comes : (command : Command) (d : DeskSeen) (out err : SinkSeen) (status : Status) → IsAnswer command d out err status → BadSignalsComes command d err status
+bad_signals_comes command d out err status (inl w) call t c u e told spells also none =
+    let o = cover_output command call d w.whole.bytes w.settled e w.whole.output in
+    absurd (none o.signals (signals_spelled call d t u c o.circuit o.signals told.told spells also.told o.has_circuit o.has_signals).spells)
+bad_signals_comes command d out err status (inr s) call t c u e told spells also none =
+    stopped_so command d out err status stops.BadSignals s
+    (no_signals_stops call d out s.stop t u c told spells also none (after_circuit call d out s.stop t c told spells (stops_of command call d out s.stop e s.stopped.cause)))
+
+too_long_signals : (call : CoverCall) (d : DeskSeen) (u : List ℕ) → IsToldTooLong d files.Signals call.signals u → length u ≤ limit_of files.Signals → ⊥
+too_long_signals call d u past short = let over : limit_of files.Signals < length u = past.long in omega arith
+
+long_signals_stops : (call : CoverCall) (d : DeskSeen) (out : SinkSeen) (stop : Stop) (t u : List ℕ) (c : Parts) → IsTold d files.Circuit call.circuit t → SpellsCircuit t c
+    → IsToldTooLong d files.Signals call.signals u → SignalsStops call d out c stop → (stop ≡ stops.TooLong files.Signals) ⊎ (stop ≡ stops.OutOfMemory)
+long_signals_stops call d out stop t u c told spells past (unreadable h) = absurd (past.no_fault h)
+long_signals_stops call d out stop t u c told spells past (long e h) = inl e
+long_signals_stops call d out stop t u c told spells past (refused e h) = absurd (too_long_signals call d u past (signals_none call d t u c told.told spells past.told h).short)
+long_signals_stops call d out stop t u c told spells past (written h bytes settled o) =
+    absurd (too_long_signals call d u past (signals_spelled call d t u c o.circuit o.signals told.told spells past.told o.has_circuit o.has_signals).short)
+long_signals_stops call d out stop t u c told spells past (short_of_memory e) = inr e
+
+pub long_signals_comes : (command : Command) (d : DeskSeen) (out err : SinkSeen) (status : Status) → IsAnswer command d out err status → LongSignalsComes command d err status
+long_signals_comes command d out err status (inl w) call t c u e told spells past =
+    let o = cover_output command call d w.whole.bytes w.settled e w.whole.output in
+    absurd (too_long_signals call d u past (signals_spelled call d t u c o.circuit o.signals told.told spells past.told o.has_circuit o.has_signals).short)
+long_signals_comes command d out err status (inr s) call t c u e told spells past =
+    stopped_so command d out err status (stops.TooLong files.Signals) s
+    (long_signals_stops call d out s.stop t u c told spells past (after_circuit call d out s.stop t c told spells (stops_of command call d out s.stop e s.stopped.cause)))
+
+-- ---- a whole output of a command whose texts are accepted
+settled_means : (settled : Bool) (status : Status) (n : ℕ) → status ≡ settled_status settled → settled ≡ nat_eq n 0 → (status ≡ statuses.Settled) ↔ (n ≡ 0)
+settled_means true status n e s = (λ _. grind (arith, nat_tests), λ _. e)
+settled_means false status n e s = (λ h. absurd (let clash : statuses.Open ≡ statuses.Settled = sym e ∙ h in cc), λ h. absurd (grind (arith, nat_tests)))
+
+covered_by : (call : CoverCall) (d : DeskSeen) (out : SinkSeen) (status : Status) (bytes : List ℕ) (settled : Bool) → (o : IsCoverOutput call d bytes settled) → Took out bytes
+    → status ≡ settled_status settled → IsCovered call o.circuit o.signals out status
+covered_by call d out status bytes settled o took e = record {
+  bytes = bytes;
+  took = took;
+  is_report = o.is_report;
+  ended = settled_either settled status e;
+  settled = settled_means settled status o.is_report.report.unsettled e o.settled_is;
+}
+
+covered : (call : CoverCall) (d : DeskSeen) (out : SinkSeen) (status : Status) (c : Parts) (sig : List ℕ) (bytes : List ℕ) (settled : Bool) → Accepts call d c sig
+    → IsCoverOutput call d bytes settled → Took out bytes → status ≡ settled_status settled → IsCovered call c sig out status
+covered call d out status c sig bytes settled accepts o took e =
+    let same_circuit : o.circuit ≡ c = same_told call d accepts.circuit_text c o.circuit accepts.circuit_told accepts.circuit o.has_circuit in
+    let spelled : IsSignalsText c o.signals accepts.signals_text =
+    signals_spelled call d accepts.circuit_text accepts.signals_text c o.circuit o.signals accepts.circuit_told accepts.circuit accepts.signals_told o.has_circuit o.has_signals in
+    let same_signals : o.signals ≡ sig = one_signals c accepts.signals_text o.signals sig accepts.circuit.well_formed spelled.spells accepts.signals in
+    subst (λ (x : Parts). IsCovered call x sig out status) same_circuit
+    (subst (λ (xs : List ℕ). IsCovered call o.circuit xs out status) same_signals (covered_by call d out status bytes settled o took e))
+
+pub headline : (command : Command) (d : DeskSeen) (out err : SinkSeen) (status : Status) → IsAnswer command d out err status → Headline command d out status
+headline command d out err status (inl w) call c sig e accepts ended =
+    covered call d out status c sig w.whole.bytes w.settled accepts (cover_output command call d w.whole.bytes w.settled e w.whole.output) w.whole.took w.status_is
+headline command d out err status (inr s) call c sig e accepts ended = absurd (not_ended s.stop status s.status_is ended)
+
+-- ---- completeness
+closed_block : (c : Parts) (sig : List ℕ) (call : CoverCall) (bytes : List ℕ) → (r : IsReport c sig call.options bytes) → SettlesAsked c sig call r.report.goals
+closed_block c sig call bytes r goal (blocks.Reached n witness) at asked = refl
+closed_block c sig call bytes r goal (blocks.Open depth hops strength) at asked = absurd ((r.tells.goals goal (blocks.Open depth hops strength) at).not_asked asked)
+
+accepted_signals : (call : CoverCall) (d : DeskSeen) (out : SinkSeen) (c : Parts) (sig : List ℕ) (stop : Stop) → Accepts call d c sig → IsUndisturbed (Cover call) d out
+    → SignalsStops call d out c stop → stop ≡ stops.OutOfMemory
+accepted_signals call d out c sig stop a u (unreadable h) = absurd (u.files files.Signals h)
+accepted_signals call d out c sig stop a u (long e h) = absurd (told_long d files.Signals call.signals a.signals_text a.signals_told a.signals_short h)
+accepted_signals call d out c sig stop a u (refused e h) = absurd ((signals_none call d a.circuit_text a.signals_text c a.circuit_told a.circuit a.signals_told h).none sig a.signals)
+accepted_signals call d out c sig stop a u (written h bytes settled o) = absurd (u.output h)
+accepted_signals call d out c sig stop a u (short_of_memory e) = e
+
+undisturbed_stop : (call : CoverCall) (d : DeskSeen) (out : SinkSeen) (c : Parts) (sig : List ℕ) (stop : Stop) → Accepts call d c sig → IsUndisturbed (Cover call) d out
+    → CoverStops call d out stop → stop ≡ stops.OutOfMemory
+undisturbed_stop call d out c sig stop a u h =
+    let told : IsTold d files.Circuit call.circuit a.circuit_text = record { told = a.circuit_told; short = a.circuit_short; no_fault = u.files files.Circuit } in
+    accepted_signals call d out c sig stop a u (after_circuit call d out stop a.circuit_text c told a.circuit h)
+
+pub completeness : (command : Command) (d : DeskSeen) (out err : SinkSeen) (status : Status) → IsAnswer command d out err status → Completeness command d out status
+completeness command d out err status (inl w) call c sig e accepts undisturbed =
+    let whole = covered call d out status c sig w.whole.bytes w.settled accepts (cover_output command call d w.whole.bytes w.settled e w.whole.output) w.whole.took w.status_is in
+    inl (record { covered = whole; asked = closed_block c sig call whole.bytes whole.is_report })
+completeness command d out err status (inr s) call c sig e accepts undisturbed =
+    let by = stops_of command call d out s.stop e s.stopped.cause in
+    let memory = undisturbed_stop call d out c sig s.stop accepts (subst (λ (x : Command). IsUndisturbed x d out) e undisturbed) by in
+    inr (s.status_is ∙ ap status_of memory)

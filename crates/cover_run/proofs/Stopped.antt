@@ -1,0 +1,87 @@
+-- Why each command can stop: its causes alone, without the stops that are never its own.
+use Rattle.std.proofs.Common.{◌≡◌, ℕ, Bool, List, Some, IfSome, refl}
+use Rattle.std.specs.Prelude.{◌≢◌}
+use Rattle.cnf_base.specs.Meaning.{CnfFormula}
+use Rattle.cnf_base.specs.declared.fault.DimacsKind.{DimacsKind}
+use Rattle.cnf_base.specs.declared.fault.DimacsKind.TheVariants as dimacs
+use Rattle.lrat_text.specs.declared.fault.LratKind.{LratKind}
+use Rattle.lrat_text.specs.declared.proof.LratStep.{LratStep}
+use Rattle.lrat_check.specs.declared.fault.ProofKind.{ProofKind}
+use Rattle.lrat_check.specs.FirstFault.{first_fault}
+use Rattle.cover_run.specs.declared.stop.File.TheVariants as files
+use Rattle.cover_run.specs.declared.stop.Measure.TheVariants as measures
+use Rattle.cover_run.specs.declared.stop.Refusal.TheVariants as refusals
+use Rattle.cover_run.specs.declared.stop.Stop.{Stop}
+use Rattle.cover_run.specs.declared.stop.Stop.TheVariants as stops
+use Rattle.cover_run.specs.Answer.{Cause}
+use Rattle.cover_run.specs.Checking.{formula_stop, HasFormula, HasProof, HasFormulaFault, HasProofFault, HasSomeFormula, IsLratOutput}
+use Rattle.cover_run.specs.Covering.{HasSomeCircuit, RefusesCircuit, RefusesSignals, IsCoverOutput}
+use Rattle.cover_run.specs.Files.{IsTooLong}
+use Rattle.cover_run.specs.Seen.{DeskSeen, SinkSeen, HasFaulted, Failed}
+use Rattle.cover_run.specs.Words.{CoverCall, LratCall, Cover, Lrat}
+
+pub data CoverStops (call : CoverCall) (d : DeskSeen) (out : SinkSeen) (stop : Stop) : Type 0 where
+  circuit_unreadable : stop ≡ stops.Unreadable files.Circuit → HasFaulted d call.circuit → CoverStops call d out stop
+  circuit_long : stop ≡ stops.TooLong files.Circuit → IsTooLong d files.Circuit call.circuit → CoverStops call d out stop
+  bad_circuit : stop ≡ stops.BadCircuit → RefusesCircuit call d → CoverStops call d out stop
+  signals_unreadable : stop ≡ stops.Unreadable files.Signals → HasSomeCircuit call d → HasFaulted d call.signals → CoverStops call d out stop
+  signals_long : stop ≡ stops.TooLong files.Signals → HasSomeCircuit call d → IsTooLong d files.Signals call.signals → CoverStops call d out stop
+  bad_signals : stop ≡ stops.BadSignals → RefusesSignals call d → CoverStops call d out stop
+  not_written : stop ≡ stops.CannotWrite → Failed out → (bytes : List ℕ) (settled : Bool) → IsCoverOutput call d bytes settled → CoverStops call d out stop
+  memory : stop ≡ stops.OutOfMemory → CoverStops call d out stop
+
+pub cover_stops : (call : CoverCall) (d : DeskSeen) (out : SinkSeen) (stop : Stop) → Cause (Cover call) d out stop → CoverStops call d out stop
+cover_stops call d out stops.Usage cause = absurd cc
+cover_stops call d out (stops.Unreadable files.Circuit) cause = circuit_unreadable refl cause.1
+cover_stops call d out (stops.Unreadable files.Signals) cause = signals_unreadable refl cause.0 cause.1
+cover_stops call d out (stops.Unreadable files.Formula) cause = absurd cause.0
+cover_stops call d out (stops.Unreadable files.Proof) cause = absurd cause.0
+cover_stops call d out (stops.TooLong files.Circuit) cause = circuit_long refl cause.1
+cover_stops call d out (stops.TooLong files.Signals) cause = signals_long refl cause.0 cause.1
+cover_stops call d out (stops.TooLong files.Formula) cause = absurd cause.0
+cover_stops call d out (stops.TooLong files.Proof) cause = absurd cause.0
+cover_stops call d out (stops.TooLarge measures.Formula) cause = absurd cause
+cover_stops call d out stops.BadCircuit cause = bad_circuit refl cause
+cover_stops call d out stops.BadSignals cause = bad_signals refl cause
+cover_stops call d out (stops.Refused why) cause = absurd cause
+cover_stops call d out stops.CannotWrite cause = not_written refl cause.0 cause.1.0 cause.1.1 cause.1.2
+cover_stops call d out stops.OutOfMemory cause = memory refl
+
+pub data LratStops (call : LratCall) (d : DeskSeen) (out : SinkSeen) (stop : Stop) : Type 0 where
+  formula_unreadable : stop ≡ stops.Unreadable files.Formula → HasFaulted d call.formula → LratStops call d out stop
+  formula_long : stop ≡ stops.TooLong files.Formula → IsTooLong d files.Formula call.formula → LratStops call d out stop
+  bad_formula : (line : ℕ) (kind : DimacsKind) → stop ≡ formula_stop line kind → IfSome (d.text call.formula) (HasFormulaFault line kind) → LratStops call d out stop
+  proof_unreadable : stop ≡ stops.Unreadable files.Proof → HasSomeFormula call d → HasFaulted d call.proof → LratStops call d out stop
+  proof_long : stop ≡ stops.TooLong files.Proof → HasSomeFormula call d → IsTooLong d files.Proof call.proof → LratStops call d out stop
+  bad_proof : (line : ℕ) (kind : LratKind) → stop ≡ stops.Refused (refusals.Proof line kind) → HasSomeFormula call d
+      → IfSome (d.text call.proof) (HasProofFault line kind) → LratStops call d out stop
+  bad_step : (step : ℕ) (kind : ProofKind) → stop ≡ stops.Refused (refusals.Step step kind) → (f : CnfFormula) (p : List LratStep) → HasFormula call d f → HasProof call d p
+      → first_fault f p ≡ Some (step, kind) → LratStops call d out stop
+  not_accepted_written : stop ≡ stops.CannotWrite → Failed out → (bytes : List ℕ) (settled : Bool) → IsLratOutput call d bytes settled → LratStops call d out stop
+  no_memory : stop ≡ stops.OutOfMemory → LratStops call d out stop
+
+refused_formula : (line : ℕ) (kind : DimacsKind) → kind ≢ dimacs.Limit → stops.Refused (refusals.Formula line kind) ≡ formula_stop line kind
+refused_formula line dimacs.Header other = refl
+refused_formula line dimacs.Literal other = refl
+refused_formula line dimacs.Count other = refl
+refused_formula line dimacs.Truncated other = refl
+refused_formula line dimacs.Limit other = absurd (other refl)
+
+pub lrat_stops : (call : LratCall) (d : DeskSeen) (out : SinkSeen) (stop : Stop) → Cause (Lrat call) d out stop → LratStops call d out stop
+lrat_stops call d out stops.Usage cause = absurd cc
+lrat_stops call d out (stops.Unreadable files.Circuit) cause = absurd cause.0
+lrat_stops call d out (stops.Unreadable files.Signals) cause = absurd cause.0
+lrat_stops call d out (stops.Unreadable files.Formula) cause = formula_unreadable refl cause.1
+lrat_stops call d out (stops.Unreadable files.Proof) cause = proof_unreadable refl cause.0 cause.1
+lrat_stops call d out (stops.TooLong files.Circuit) cause = absurd cause.0
+lrat_stops call d out (stops.TooLong files.Signals) cause = absurd cause.0
+lrat_stops call d out (stops.TooLong files.Formula) cause = formula_long refl cause.1
+lrat_stops call d out (stops.TooLong files.Proof) cause = proof_long refl cause.0 cause.1
+lrat_stops call d out (stops.TooLarge measures.Formula) cause = bad_formula cause.0 dimacs.Limit refl cause.1
+lrat_stops call d out stops.BadCircuit cause = absurd cause
+lrat_stops call d out stops.BadSignals cause = absurd cause
+lrat_stops call d out (stops.Refused (refusals.Formula line kind)) cause = bad_formula line kind (refused_formula line kind cause.0) cause.1
+lrat_stops call d out (stops.Refused (refusals.Proof line kind)) cause = bad_proof line kind refl cause.0 cause.1
+lrat_stops call d out (stops.Refused (refusals.Step step kind)) cause = bad_step step kind refl cause.0 cause.1 cause.2 cause.3 cause.4
+lrat_stops call d out stops.CannotWrite cause = not_accepted_written refl cause.0 cause.1.0 cause.1.1 cause.1.2
+lrat_stops call d out stops.OutOfMemory cause = no_memory refl

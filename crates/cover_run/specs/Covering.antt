@@ -1,0 +1,55 @@
+-- What `cover` reads and writes.
+use Rattle.std.specs.Prelude.{◌≡◌, ℕ, ◌≤◌, Bool, nat_eq, List, length, IfSome}
+use Rattle.aig_model.specs.declared.parts.Parts.{Parts}
+use Rattle.cover_run.specs.declared.stop.File.TheVariants as files
+use Rattle.cover_run.specs.FirstForms.{SpellsCircuit, SpellsSignals}
+use Rattle.cover_run.specs.Files.{limit_of}
+use Rattle.cover_run.specs.Report.{IsReport}
+use Rattle.cover_run.specs.Seen.{DeskSeen}
+use Rattle.cover_run.specs.Words.{CoverCall}
+
+-- a text within its limit that spells the circuit, and one that spells the signals
+pub record IsCircuitText (c : Parts) (t : List ℕ) : Type 0 where
+  pub short : length t ≤ limit_of files.Circuit
+  pub spells : SpellsCircuit t c
+
+pub record IsSignalsText (c : Parts) (sig : List ℕ) (t : List ℕ) : Type 0 where
+  pub short : length t ≤ limit_of files.Signals
+  pub spells : SpellsSignals c t sig
+
+-- a text within its limit that spells none
+pub record IsNoCircuit (t : List ℕ) : Type 0 where
+  pub short : length t ≤ limit_of files.Circuit
+  pub none : (c : Parts) → ¬ SpellsCircuit t c
+
+pub record IsNoSignals (c : Parts) (t : List ℕ) : Type 0 where
+  pub short : length t ≤ limit_of files.Signals
+  pub none : (sig : List ℕ) → ¬ SpellsSignals c t sig
+
+-- the texts, where they are told, are accepted as this circuit and these signals
+abbrev pub HasCircuit : CoverCall → DeskSeen → Parts → Type 0
+HasCircuit call d c = IfSome (d.text call.circuit) (IsCircuitText c)
+
+abbrev pub HasSignals : CoverCall → DeskSeen → Parts → List ℕ → Type 0
+HasSignals call d c sig = IfSome (d.text call.signals) (IsSignalsText c sig)
+
+-- the circuit was accepted before the signals were looked at
+abbrev pub HasSomeCircuit : CoverCall → DeskSeen → Type 0
+HasSomeCircuit call d = (c : Parts) × HasCircuit call d c
+
+-- ---- the refusals
+abbrev pub RefusesCircuit : CoverCall → DeskSeen → Type 0
+RefusesCircuit call d = IfSome (d.text call.circuit) IsNoCircuit
+
+abbrev pub RefusesSignals : CoverCall → DeskSeen → Type 0
+RefusesSignals call d = (c : Parts) × HasCircuit call d c × IfSome (d.text call.signals) (IsNoSignals c)
+
+-- ---- the output
+-- These bytes are the whole output, and this says whether it leaves nothing open.
+pub record IsCoverOutput (call : CoverCall) (d : DeskSeen) (bytes : List ℕ) (settled : Bool) : Type 0 where
+  pub circuit : Parts
+  pub signals : List ℕ
+  pub has_circuit : HasCircuit call d circuit
+  pub has_signals : HasSignals call d circuit signals
+  pub is_report : IsReport circuit signals call.options bytes
+  pub settled_is : settled ≡ nat_eq is_report.report.unsettled 0

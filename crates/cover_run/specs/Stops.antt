@@ -1,0 +1,102 @@
+-- What the user sees of a stop: the status, and the line on the error stream.
+use Rattle.std.specs.Prelude.{ℕ, Bool, true, false, if◌then◌else◌, List, ◌++◌, codes, decimal}
+use Rattle.cnf_base.specs.declared.fault.DimacsKind.{DimacsKind}
+use Rattle.cnf_base.specs.declared.fault.DimacsKind.TheVariants as dimacs
+use Rattle.lrat_text.specs.declared.fault.LratKind.{LratKind}
+use Rattle.lrat_text.specs.declared.fault.LratKind.TheVariants as lrat
+use Rattle.lrat_check.specs.declared.fault.ProofKind.{ProofKind}
+use Rattle.lrat_check.specs.declared.fault.ProofKind.TheVariants as proof
+use Rattle.cover_run.specs.declared.stop.File.{File}
+use Rattle.cover_run.specs.declared.stop.File.TheVariants as files
+use Rattle.cover_run.specs.declared.stop.Measure.{Measure}
+use Rattle.cover_run.specs.declared.stop.Measure.TheVariants as measures
+use Rattle.cover_run.specs.declared.stop.Refusal.{Refusal}
+use Rattle.cover_run.specs.declared.stop.Refusal.TheVariants as refusals
+use Rattle.cover_run.specs.declared.stop.Stop.{Stop}
+use Rattle.cover_run.specs.declared.stop.Stop.TheVariants as stops
+use Rattle.cover_run.specs.declared.stop.Status.{Status}
+use Rattle.cover_run.specs.declared.stop.Status.TheVariants as statuses
+
+abbrev pub status_of : Stop → Status
+status_of stops.Usage = statuses.Usage
+status_of (stops.Unreadable f) = statuses.ReadFault
+status_of (stops.TooLong f) = statuses.Limit
+status_of (stops.TooLarge m) = statuses.Limit
+status_of stops.BadCircuit = statuses.BadCircuit
+status_of stops.BadSignals = statuses.BadSignals
+status_of (stops.Refused why) = statuses.Refused
+status_of stops.CannotWrite = statuses.WriteFault
+status_of stops.OutOfMemory = statuses.WantOfMemory
+
+abbrev pub settled_status : Bool → Status
+settled_status settled = if settled then statuses.Settled else statuses.Open
+
+-- what holds of every stop but that a file is too long
+abbrev pub UnlessTooLong : Stop → Type 0 → Type 0
+UnlessTooLong (stops.TooLong f) P = Unit {0}
+UnlessTooLong stop P = P
+
+-- a stop after which something of the output may stand
+abbrev pub is_late : Stop → Bool
+is_late stops.CannotWrite = true
+is_late stops.OutOfMemory = true
+is_late stop = false
+
+-- ---- words of the lines
+abbrev pub file_word : File → List ℕ
+file_word files.Circuit = codes "circuit"
+file_word files.Signals = codes "signals"
+file_word files.Formula = codes "formula"
+file_word files.Proof = codes "proof"
+
+abbrev pub measure_word : Measure → List ℕ
+measure_word measures.Formula = codes "formula"
+
+-- the names of the kinds of fault
+abbrev pub dimacs_word : DimacsKind → List ℕ
+dimacs_word dimacs.Header = codes "Header"
+dimacs_word dimacs.Literal = codes "Literal"
+dimacs_word dimacs.Count = codes "Count"
+dimacs_word dimacs.Truncated = codes "Truncated"
+dimacs_word dimacs.Limit = codes "Limit"
+
+abbrev pub lrat_word : LratKind → List ℕ
+lrat_word lrat.Number = codes "Number"
+lrat_word lrat.Form = codes "Form"
+lrat_word lrat.Truncated = codes "Truncated"
+
+abbrev pub proof_words : ProofKind → List ℕ
+proof_words proof.OldId = codes "OldId"
+proof_words (proof.UnknownId id) = codes "UnknownId " ++ decimal id
+proof_words (proof.NotUnit hint) = codes "NotUnit " ++ decimal hint
+proof_words proof.NoConflict = codes "NoConflict"
+proof_words proof.NegativeHint = codes "NegativeHint"
+proof_words proof.NoEmpty = codes "NoEmpty"
+
+-- ---- lines
+-- a text, and a word
+abbrev pub word_line : List ℕ → List ℕ → List ℕ
+word_line text word = text ++ word ++ codes "\n"
+
+-- a place, and what is wrong there
+abbrev pub placed_text : List ℕ → ℕ → List ℕ
+placed_text text place = text ++ decimal place ++ codes ": "
+
+abbrev pub placed_line : List ℕ → ℕ → List ℕ → List ℕ
+placed_line text place kind = placed_text text place ++ kind ++ codes "\n"
+
+abbrev pub refusal_line : Refusal → List ℕ
+refusal_line (refusals.Formula line kind) = placed_line (codes "ketch: refused: formula line ") line (dimacs_word kind)
+refusal_line (refusals.Proof line kind) = placed_line (codes "ketch: refused: proof line ") line (lrat_word kind)
+refusal_line (refusals.Step step kind) = placed_line (codes "ketch: refused: step ") step (proof_words kind)
+
+abbrev pub line_of : Stop → List ℕ
+line_of stops.Usage = codes "ketch: usage: ketch cover|check|goals|replay|lrat|make ..\n"
+line_of (stops.Unreadable f) = word_line (codes "ketch: cannot read ") (file_word f)
+line_of (stops.TooLong f) = word_line (codes "ketch: limit: ") (file_word f)
+line_of (stops.TooLarge m) = word_line (codes "ketch: limit: ") (measure_word m)
+line_of stops.BadCircuit = codes "ketch: circuit at 0: NotBuilt\n"
+line_of stops.BadSignals = codes "ketch: signals line 0: NotBuilt\n"
+line_of (stops.Refused why) = refusal_line why
+line_of stops.CannotWrite = codes "ketch: cannot write\n"
+line_of stops.OutOfMemory = codes "ketch: out of memory\n"
