@@ -1,4 +1,5 @@
 pub mod Answering
+pub mod Asked
 pub mod Forms
 pub mod InRange
 pub mod LineFaults

@@ -1,8 +1,9 @@
 -- Reading line by line: what is known after the lines that are done.
-use Rattle.std.proofs.Common.{◌≡◌, ◌≢◌, ℕ, ◌+◌, ◌<◌, true, false, List, [], ◌∷◌, ◌++◌, length, get_or, refl, sym, ap, ◌∙◌, subst, arith, Contains, AllPairs, length-append}
+use Rattle.std.proofs.Common.{◌≡◌, Result, Ok, Err, IfErr, ◌≢◌, ℕ, ◌+◌, ◌<◌, true, false, List, [], ◌∷◌, ◌++◌, length, get_or, refl, sym, ap, ◌∙◌, subst, arith, Contains, AllPairs, length-append}
 use Rattle.std.specs.List.{AllZip}
+use Rattle.std.specs.Result.{IsErrAnd}
 use Rattle.std.proofs.lemmas.List.{append-nil, append_assoc}
-use Rattle.std.proofs.lemmas.List.Elements.{Contains-get_or}
+use Rattle.std.proofs.lemmas.List.Elements.{Contains-append_right, Contains-get_or}
 use Rattle.std.proofs.lemmas.List.Quantifiers.{all_pairs_push}
 use Rattle.text_words.specs.Lines.{lines}
 use Rattle.aig_model.specs.declared.parts.Parts.{Parts}
@@ -11,7 +12,8 @@ use Rattle.signal_list.specs.declared.fault.SigKind.TheVariants.{Form, Range, No
 use Rattle.signal_list.specs.declared.fault.LineFault.{LineFault}
 use Rattle.signal_list.specs.declared.fault.LineFault.TheVariants as stops
 use Rattle.signal_list.specs.SignalText.{trimmed, is_signal, signal_lines, SpellsSignal, SpellUpTo, SpellsSignals, HasFaultyLine, HasNoSignal, IsFirstFault, IsFault}
-use Rattle.signal_list.specs.Reading.{JoinsOf, IsFaultAfter, on_line}
+use Rattle.signal_list.specs.Names.{Table, IsAsked, AreAsked}
+use Rattle.signal_list.specs.Reading.{JoinsOf, IsOwnFault, IsFaultAfter, on_line}
 use Rattle.signal_list.proofs.OneReading.{signal_lines-append, signal_lines-signal, signal_lines-other}
 
 abbrev Lines : Type 0
@@ -73,6 +75,13 @@ adds c text number line rest old new r is j =
       spelled = subst (SpellUpTo c (r.done ++ line ∷ [])) (sym joins.last) (record { each = each; few = omega (arith, joins.room, length-append old (lit ∷ [])); once = once });
     }
 
+-- the line's name is asked for
+pub is-asked : {S : Type 0} (c : Parts) (text : List ℕ) (number : ℕ) (line : List ℕ) (rest : Lines) (lits : List ℕ) (owners : Table S) → IsReadUpTo c text number (line ∷ rest) lits
+    → AreAsked (lines text) owners → IsAsked (trimmed line) owners
+is-asked c text number line rest lits owners r asked =
+    let here : Contains (line ∷ rest) line = (0, omega arith, refl) in
+    asked line (subst (λ (ls : Lines). Contains ls line) (sym r.parts) (Contains-append_right r.done (line ∷ rest) line here))
+
 -- ---- the ends
 
 first-fault : (c : Parts) (text : List ℕ) (line : ℕ) (kind : SigKind) → HasFaultyLine c text line kind → IsFirstFault c text line kind
@@ -118,3 +127,9 @@ ends-empty c text number lits r none = record {
     no-lines : (ls : Lines) → AllZip (SpellsSignal c) ls [] → ls ≡ []
     no-lines [] each = refl
     no-lines (l ∷ ls) each = absurd each
+
+-- a line's own fault, as a `?` hands it on
+pub own-fault : {A : Type 0} (c : Parts) (earlier line : List ℕ) (r : Result A LineFault) (kind : SigKind) → IsErrAnd r (λ e. e ≡ stops.Kind kind) → IsOwnFault c line kind
+    → IfErr r (IsFaultAfter c earlier line)
+own-fault c earlier line (Ok x) kind is fault = tt
+own-fault c earlier line (Err e) kind is fault = subst (IsFaultAfter c earlier line) (sym is) (fault earlier)

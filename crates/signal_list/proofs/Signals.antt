@@ -1,19 +1,15 @@
 -- What the reference that is read on a line says of the line.
-use Rattle.std.proofs.Common.{◌≡◌, ℕ, ◌<◌, ◌≤◌, ◌⊎◌, Bool, true, false, cond, nat_eq, Option, Some, None, Result, Ok, Err, IfErr, ok_or, List, [], ◌∷◌, length, slice_get, refl, sym, ap, ◌∙◌, subst, inl, inr, arith, eqb-true}
+use Rattle.std.proofs.Common.{◌≡◌, ℕ, ◌<◌, ◌≤◌, ◌⊎◌, Bool, true, false, cond, nat_eq, Option, Some, None, Result, Ok, Err, IfOk, IfErr, ok_or, List, [], ◌∷◌, length, slice_get, refl, sym, ap, ◌∙◌, subst, inl, inr, arith, eqb-true}
 use Rattle.std.specs.Option.{option_map}
 use Rattle.std.specs.Result.{IsErrAnd}
-use Rattle.std.proofs.lemmas.List.{length-map}
 use Rattle.std.proofs.lemmas.List.Elements.{All-contains}
 use Rattle.std.proofs.lemmas.Option.{slice_get_within, slice_get_cases}
 use Rattle.text_words.specs.Numbers.{natural_of}
-use Rattle.aig_model.specs.declared.parts.Latch.{Latch}
 use Rattle.aig_model.specs.declared.parts.Named.{Named}
 use Rattle.aig_model.specs.declared.parts.Parts.{Parts}
 use Rattle.aig_model.specs.declared.parts.Place.{Place}
 use Rattle.aig_model.specs.declared.parts.Place.TheVariants as places
 use Rattle.aig_model.specs.WellFormed.{limit, latch_lits, Exists, IsSized, AreNames, IsInRange}
-use Rattle.signal_list.specs.declared.fault.LineFault.{LineFault}
-use Rattle.signal_list.specs.declared.fault.LineFault.TheVariants as stops
 use Rattle.signal_list.specs.declared.fault.SigKind.{SigKind}
 use Rattle.signal_list.specs.declared.fault.SigKind.TheVariants.{Range, NoName, TwoNames}
 use Rattle.signal_list.specs.declared.names.Owner.{Owner}
@@ -124,12 +120,12 @@ no-form line e r form =
     let no : ◌≡◌ {A = Option Reference} None (Some (capped r)) = e ∙ ap (option_map capped) (form-read r line form) in
     cc
 
-pub spelled : (c : Parts) (line : List ℕ) (q : Reference) (lit : ℕ) → IsSized c → Reads line q → StandsFor c q lit → SpellsSignal c line lit
+spelled : (c : Parts) (line : List ℕ) (q : Reference) (lit : ℕ) → IsSized c → Reads line q → StandsFor c q lit → SpellsSignal c line lit
 spelled c line q lit sized e s =
     let from = source line q e in
     (from.r, from.form, stands c from.r lit sized (subst (λ (p : Reference). StandsFor c p lit) from.same s))
 
-pub refused-range : (c : Parts) (line : List ℕ) (q : Reference) → Reads line q → IsOutOfRange c q → (earlier : List ℕ) → IsLineFault c earlier line Range
+refused-range : (c : Parts) (line : List ℕ) (q : Reference) → Reads line q → IsOutOfRange c q → (earlier : List ℕ) → IsLineFault c earlier line Range
 refused-range c line q e out earlier =
     let from = source line q e in
     (from.r, from.form, out-of-range c from.r (subst (IsOutOfRange c) from.same out))
@@ -143,7 +139,7 @@ name-back (place (places.Constraint k)) bytes e = cc
 name-back (literal n) bytes e = cc
 name-back (name other) bytes e = sym e
 
-name-form : (line bytes : List ℕ) → Reads line (name bytes) → IsForm (name bytes) line
+pub name-form : (line bytes : List ℕ) → Reads line (name bytes) → IsForm (name bytes) line
 name-form line bytes e =
     let from = source line (name bytes) e in
     subst (λ (r : Reference). IsForm r line) (name-back from.r bytes from.same) from.form
@@ -163,8 +159,7 @@ no-place c (places.Output k) e = within-or-none c.outputs k e
 no-place c (places.Bad k) e = within-or-none c.bads k e
 no-place c (places.Constraint k) e = within-or-none c.constraints k e
 
--- what a place's literal answers
-pub place-given : (c : Parts) (p : Place) (lit : ℕ) → Ok lit ≡ ok_or (literal_at c p) Range → literal_at c p ≡ Some lit
+place-given : (c : Parts) (p : Place) (lit : ℕ) → Ok lit ≡ ok_or (literal_at c p) Range → literal_at c p ≡ Some lit
 place-given c p lit e = at (literal_at c p) e
   where
     at : (o : Option ℕ) → Ok lit ≡ ok_or o Range → o ≡ Some lit
@@ -178,11 +173,29 @@ place-refused c p kind e = at (literal_at c p) refl e
     at None is h = (cc, no-place c p is)
     at (Some x) is h = cc
 
-pub refused-place : (c : Parts) (line : List ℕ) (p : Place) (kind : SigKind) → Reads line (place p) → Err kind ≡ ok_or (literal_at c p) Range
-    → (earlier : List ℕ) → IsLineFault c earlier line kind
-refused-place c line p kind e r earlier =
-    let no = place-refused c p kind r in
-    subst (IsLineFault c earlier line) no.0 (refused-range c line (place p) e no.1 earlier)
+-- ---- what the three kinds of reference answer
+
+pub place-signal : (c : Parts) (line : List ℕ) (p : Place) (r : Result ℕ SigKind) → IsSized c → Reads line (place p) → r ≡ ok_or (literal_at c p) Range → IfOk r (SpellsSignal c line)
+place-signal c line p (Ok lit) sized reads e = spelled c line (place p) lit sized reads (place-given c p lit e)
+place-signal c line p (Err kind) sized reads e = tt
+
+pub place-fault : (c : Parts) (line : List ℕ) (p : Place) (r : Result ℕ SigKind) → Reads line (place p) → r ≡ ok_or (literal_at c p) Range → IfErr r (IsOwnFault c line)
+place-fault c line p (Ok lit) reads e = tt
+place-fault c line p (Err kind) reads e =
+    let no = place-refused c p kind e in
+    λ earlier. subst (IsLineFault c earlier line) no.0 (refused-range c line (place p) reads no.1 earlier)
+
+pub literal-signal : (c : Parts) (line : List ℕ) (top n : ℕ) (r : Result ℕ SigKind) → IsSized c → top ≡ c.top → Reads line (literal n) → IfOk r (λ lit. IsInRange top n × (lit ≡ n))
+    → IfOk r (SpellsSignal c line)
+literal-signal c line top n (Ok lit) sized is reads h = spelled c line (literal n) lit sized reads (subst (λ (t : ℕ). IsInRange t n) is h.0, h.1)
+literal-signal c line top n (Err kind) sized is reads h = tt
+
+pub literal-fault : (c : Parts) (line : List ℕ) (top n : ℕ) (r : Result ℕ SigKind) → top ≡ c.top → Reads line (literal n) → IfErr r (λ kind. (kind ≡ Range) × (¬ IsInRange top n))
+    → IfErr r (IsOwnFault c line)
+literal-fault c line top n (Ok lit) is reads h = tt
+literal-fault c line top n (Err kind) is reads h =
+    let above = λ (small : IsInRange c.top n). h.1 (subst (λ (t : ℕ). IsInRange t n) (sym is) small) in
+    λ earlier. subst (IsLineFault c earlier line) (sym h.0) (refused-range c line (literal n) reads above earlier)
 
 -- ---- names
 
@@ -199,14 +212,18 @@ refused-name c line bytes (Some Several) kind names e is r earlier =
     let same : TwoNames ≡ kind = cc in subst (IsLineFault c earlier line) same (bytes, name-form line bytes e, owner-several c bytes names.once (sym is))
 refused-name c line bytes (Some (One q)) kind names e is r earlier = cc
 
+pub name-signal : (c : Parts) (line bytes : List ℕ) (p : Place) (r : Result ℕ SigKind) → IsSized c → Reads line (name bytes) → IsNameOf c p bytes → r ≡ ok_or (literal_at c p) Range
+    → IfOk r (SpellsSignal c line)
+name-signal c line bytes p (Ok lit) sized reads of e = spelled c line (name bytes) lit sized reads (p, of, place-given c p lit e)
+name-signal c line bytes p (Err kind) sized reads of e = tt
+
 -- a place with a name exists
-pub named-place : (c : Parts) (bytes : List ℕ) (p : Place) (kind : SigKind) → AreNames c → IsNameOf c p bytes → Err kind ≡ ok_or (literal_at c p) Range → ⊥
-named-place c bytes p kind names of r =
-    (place-refused c p kind r).1 (All-contains (λ (n : Named). Exists c n.place) c.names (record { place = p; name = bytes }) names.exist of.has)
+pub name-found : (c : Parts) (line bytes : List ℕ) (p : Place) (r : Result ℕ SigKind) → AreNames c → IsNameOf c p bytes → r ≡ ok_or (literal_at c p) Range → IfErr r (IsOwnFault c line)
+name-found c line bytes p (Ok lit) names of e = tt
+name-found c line bytes p (Err kind) names of e =
+    absurd ((place-refused c p kind e).1 (All-contains (λ (n : Named). Exists c n.place) c.names (record { place = p; name = bytes }) names.exist of.has))
 
--- ---- what a `?` hands on
-
-pub handed-on : {A : Type 0} (c : Parts) (line : List ℕ) (result : Result A LineFault) (kind : SigKind) → IsErrAnd result (λ e. e ≡ stops.Kind kind)
-    → ((earlier : List ℕ) → IsLineFault c earlier line kind) → IfErr result (IsOwnFault c line)
+-- an error that a `?` hands on
+pub handed-on : {A : Type 0} (c : Parts) (line : List ℕ) (r : Result A SigKind) (kind : SigKind) → IsErrAnd r (λ e. e ≡ kind) → IsOwnFault c line kind → IfErr r (IsOwnFault c line)
 handed-on c line (Ok x) kind is fault = tt
 handed-on c line (Err e) kind is fault = subst (IsOwnFault c line) (sym is) fault

@@ -6,6 +6,7 @@ use Rattle.aig_model.specs.declared.parts.Parts.{Parts}
 use Rattle.aig_model.specs.declared.parts.Place.TheVariants as places
 use Rattle.signal_list.specs.declared.reference.Reference as kept
 use Rattle.signal_list.specs.declared.reference.Reference.TheVariants as references
+use Rattle.signal_list.specs.declared.fault.SigKind.{SigKind}
 use Rattle.signal_list.specs.declared.fault.SigKind.TheVariants.{Repeated, TooMany}
 use Rattle.signal_list.specs.declared.fault.SigFault.{SigFault}
 use Rattle.signal_list.specs.declared.fault.SigFault.TheVariants as faults
@@ -50,9 +51,8 @@ seen (references.Name bytes) = name bytes.now
 -- ---- what the parts of a reading answer
 
 -- a fault of the line alone, whatever signals are before it
-abbrev pub IsOwnFault : Parts → List ℕ → LineFault → Type 0
-IsOwnFault c line (stops.Kind kind) = (earlier : List ℕ) → IsLineFault c earlier line kind
-IsOwnFault c line stops.OutOfMemory = Unit {0}
+abbrev pub IsOwnFault : Parts → List ℕ → SigKind → Type 0
+IsOwnFault c line kind = (earlier : List ℕ) → IsLineFault c earlier line kind
 
 -- the fault of a line after signals with these literals
 abbrev pub IsFaultAfter : Parts → List ℕ → List ℕ → LineFault → Type 0

@@ -1,13 +1,15 @@
-//! The names of a circuit, looked up by their bytes.
+//! The names that a list asks for, and who has them.
 
-ghost use Rattle.std.specs.Prelude.{◌≡◌, IfOk, option_copied};
-ghost use Rattle.signal_list.specs.Names.{owner_of, with_one_more, TellsOwners};
+ghost use Rattle.std.specs.Prelude.{◌≡◌, ◌≢◌, ℕ, List, [], ◌∷◌, IfOk, MatchOption};
+ghost use Rattle.text_words.specs.Lines.{lines};
+ghost use Rattle.signal_list.specs.Names.{with_one_more, TellsOwners, AreAsked, KeepsNames};
 
-use aig_model::{Named, Names, Place};
+use crate::line::trim_spaces;
+use aig_model::{Named, Place};
 use indexmap::IndexMap;
 use ketch_base::OutOfMemory;
 use std::alloc::Global;
-use std::marker::Model;
+use text_words::Lines;
 
 /// Who has a name.
 #[derive(Clone, Copy, Debug, PartialEq, Eq)]
@@ -16,65 +18,70 @@ pub enum Owner {
     Several,
 }
 
-/// The symbols of a circuit. The table of owners is made when the first name is looked up, in one pass, so a list
-/// without names takes none.
-#[derive(Drop)]
-pub struct NameTable<'a> {
+/// The names that a list asks for, each with its owner, if it has one.
+pub type Owners<'a> = IndexMap<&'a [u8], Option<Owner>>;
+
+/// Looks each symbol up among the names that the text asks for, so that a circuit's names are passed once and none
+/// of them is kept.
+pub fn owners_asked<'a>(
+    alloc: Global,
+    text: &'a [u8],
     symbols: &'a [Named],
-    owners: Option<IndexMap<&'a [u8], Owner>>,
-}
-
-impl<'a> Model for NameTable<'a> {
-    ghost use Rattle.std.specs.Prelude.{List};
-    ghost use Rattle.std.specs.Option.{ForSome};
-    ghost use Rattle.aig_model.specs.declared.parts.Named.{Named};
-    ghost use Rattle.signal_list.specs.Names.{TellsOwners};
-
-    ghost Value = { List Named };
-
-    ghost view = { λ t. t.symbols.now };
-
-    ghost invariant = { λ t. ForSome t.owners (λ owners. TellsOwners t.symbols.now owners) };
-}
-
-impl<'a> NameTable<'a> {
-    pub fn new(symbols: &'a Names) -> NameTable<'a>
-        ensures { result ≡ symbols.now }
-    {
-        NameTable {
-            symbols: symbols.as_slice(),
-            owners: None,
-        }
-    }
-
-    pub fn owner(&mut self, alloc: Global, name: &[u8]) -> Result<Option<Owner>, OutOfMemory>
-        ensures same { self.new ≡ self.old }
-        ensures owner { IfOk result (λ owner. owner ≡ owner_of self.old name.now) }
-    {
-        if let Some(owners) = &self.owners {
-            return Ok(owners.get(name).copied());
-        }
-        let owners = owners_of(alloc, self.symbols)?;
-        let owner = owners.get(name).copied();
-        self.owners = Some(owners);
-        Ok(owner)
-    }
-}
-
-fn owners_of(alloc: Global, symbols: &[Named]) -> Result<IndexMap<&[u8], Owner>, OutOfMemory>
-    ensures { IfOk result (TellsOwners symbols.now) }
+) -> Result<Owners<'a>, OutOfMemory>
+    ensures asked { IfOk result (AreAsked (lines text.now)) }
+    ensures owners { IfOk result (TellsOwners symbols.now) }
 {
-    let mut owners = IndexMap::new(alloc);
+    let names = names_asked(alloc, text)?;
+    if names.is_empty() {
+        return Ok(names);
+    }
+    let owners = find_owners(names, symbols)?;
+    Ok(owners)
+}
+
+fn names_asked(alloc: Global, text: &[u8]) -> Result<Owners<'_>, OutOfMemory>
+    ensures asked { IfOk result (AreAsked (lines text.now)) }
+    ensures none { IfOk result (TellsOwners []) }
+{
+    let mut names = IndexMap::new(alloc);
+    for line in Lines::new(text) {
+        if let Some(name) = name_on(trim_spaces(line)) {
+            names.insert(name, None)?;
+        }
+    }
+    Ok(names)
+}
+
+/// What follows the @ that a line begins with.
+fn name_on(line: &[u8]) -> Option<&[u8]>
+    ensures { MatchOption result
+        ((name : List ℕ) → line.now ≢ 64 ∷ name)
+        (λ name. line.now ≡ 64 ∷ name.now) }
+{
+    match line {
+        [b'@', name @ ..] => Some(name),
+        _ => None,
+    }
+}
+
+fn find_owners<'a>(names: Owners<'a>, symbols: &'a [Named]) -> Result<Owners<'a>, OutOfMemory>
+    requires { TellsOwners [] names }
+    ensures names { IfOk result (KeepsNames names.entry) }
+    ensures owners { IfOk result (TellsOwners symbols.now) }
+{
+    let mut owners = names;
     for symbol in symbols {
         let name = symbol.name.as_slice();
-        let owner = with_one_more(owners.get(name), symbol.place);
-        owners.insert(name, owner)?;
+        if let Some(owner) = owners.get(name) {
+            let owner = with_one_more(*owner, symbol.place);
+            owners.insert(name, Some(owner))?;
+        }
     }
     Ok(owners)
 }
 
-fn with_one_more(owner: Option<&Owner>, place: Place) -> Owner
-    ensures { result ≡ with_one_more (option_copied owner.entry) place }
+fn with_one_more(owner: Option<Owner>, place: Place) -> Owner
+    ensures { result ≡ with_one_more owner place }
 {
     match owner {
         None => Owner::One(place),

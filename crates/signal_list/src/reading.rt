@@ -3,12 +3,13 @@
 ghost use Rattle.std.specs.Prelude.{◌≡◌, ℕ, ◌<◌, ◌≤◌, ◌^◌, List, length, Contains, OnOk, IfOk, IfErr, Ok, Err};
 ghost use Rattle.text_words.specs.Lines.{lines};
 ghost use Rattle.signal_list.specs.SignalText.{AreSignalsOf, SpellsSignals, IsFirstFault, IsFault, Answers};
+ghost use Rattle.signal_list.specs.Names.{TellsOwners, IsAsked};
 ghost use Rattle.signal_list.specs.Reading.{Joins, JoinsOf, IsKeptOut, IsFaultAfter};
 ghost use Rattle.signal_list.specs.declared.fault.SigKind.{SigKind};
 
 use crate::fault::{LineFault, SigFault, SigKind};
 use crate::line::{is_signal, trim_spaces};
-use crate::names::NameTable;
+use crate::names::{Owners, owners_asked};
 use crate::signal::read_signal;
 use aig_model::{Circuit, Lit, Lits, Signals};
 use std::alloc::Global;
@@ -38,8 +39,8 @@ fn read_lits(alloc: Global, bytes: &[u8], circuit: &Circuit) -> Result<Lits, Sig
     ensures lits { IfOk result (SpellsSignals circuit.now bytes.now) }
     ensures fault { IfErr result (IsFault circuit.now bytes.now) }
 {
+    let owners = owners_asked(alloc, bytes, circuit.names().as_slice())?;
     let mut lits = Lits::new(alloc);
-    let mut names = NameTable::new(circuit.names());
     let mut number = 0;
     for line in Lines::new(bytes) {
         number += 1;
@@ -47,7 +48,7 @@ fn read_lits(alloc: Global, bytes: &[u8], circuit: &Circuit) -> Result<Lits, Sig
         if !is_signal(line) {
             continue;
         }
-        if let Err(fault) = add_signal(alloc, circuit, &mut names, &mut lits, line) {
+        if let Err(fault) = add_signal(&mut lits, circuit, &owners, line) {
             return Err(fault.on_line(number));
         }
     }
@@ -62,19 +63,18 @@ fn read_lits(alloc: Global, bytes: &[u8], circuit: &Circuit) -> Result<Lits, Sig
 
 /// Puts the literal of the signal on a trimmed line after the others.
 fn add_signal(
-    alloc: Global,
-    circuit: &Circuit,
-    names: &mut NameTable<'_>,
     lits: &mut Lits,
+    circuit: &Circuit,
+    owners: &Owners<'_>,
     line: &[u8],
 ) -> Result<(), LineFault>
-    requires names { names.old ≡ circuit.now.names }
+    requires owners { TellsOwners circuit.now.names owners.now }
+    requires asked { IsAsked line.now owners.now }
     requires few { length lits.old ≤ 10 }
-    ensures names { names.new ≡ names.old }
     ensures ok { OnOk result (JoinsOf circuit.now line.now lits.old lits.new) }
     ensures err { IfErr result (IsFaultAfter circuit.now lits.old line.now) }
 {
-    let lit = read_signal(alloc, circuit, names, line)?;
+    let lit = read_signal(circuit, owners, line)?;
     join(lits, lit)
 }
 

@@ -2,37 +2,28 @@
 
 ghost use Rattle.std.specs.Prelude.{◌≡◌, ◌≤◌, slice_get, ok_or, IfOk, IfErr};
 ghost use Rattle.aig_model.specs.WellFormed.{limit, IsInRange, latch_lits};
-ghost use Rattle.signal_list.specs.Names.{the_owner};
+ghost use Rattle.signal_list.specs.Names.{the_owner, TellsOwners, IsAsked};
 ghost use Rattle.signal_list.specs.SignalText.{literal_at, SpellsSignal};
 ghost use Rattle.signal_list.specs.Reading.{IsOwnFault};
 
-use crate::fault::{LineFault, SigKind};
-use crate::names::{NameTable, Owner};
+use crate::fault::SigKind;
+use crate::names::{Owner, Owners};
 use crate::reference::Reference;
 use aig_model::{Circuit, Latches, Lit, Lits, Place};
-use std::alloc::Global;
 
 /// The literal of the signal that a trimmed line spells.
-pub fn read_signal(
-    alloc: Global,
-    circuit: &Circuit,
-    names: &mut NameTable<'_>,
-    line: &[u8],
-) -> Result<Lit, LineFault>
-    requires names { names.old ≡ circuit.now.names }
-    ensures names { names.new ≡ names.old }
+pub fn read_signal(circuit: &Circuit, owners: &Owners<'_>, line: &[u8]) -> Result<Lit, SigKind>
+    requires owners { TellsOwners circuit.now.names owners.now }
+    requires asked { IsAsked line.now owners.now }
     ensures signal { IfOk result (SpellsSignal circuit.now line.now) }
     ensures fault { IfErr result (IsOwnFault circuit.now line.now) }
 {
     let top = circuit.top();
     match Reference::of_line(line) {
-        None => Err(LineFault::Kind(SigKind::Form)),
-        Some(Reference::Place(place)) => Ok(at_place(circuit, place)?),
-        Some(Reference::Literal(value)) => Ok(in_range(top, value)?),
-        Some(Reference::Name(name)) => {
-            let place = the_owner(names.owner(alloc, name)?)?;
-            Ok(at_place(circuit, place)?)
-        }
+        None => Err(SigKind::Form),
+        Some(Reference::Place(place)) => at_place(circuit, place),
+        Some(Reference::Literal(value)) => in_range(top, value),
+        Some(Reference::Name(name)) => at_place(circuit, the_owner(owners[&name])?),
     }
 }
 

@@ -1,7 +1,8 @@
 use Rattle.std.proofs.Common.{◌≡◌, List, ℕ, length, false, true, sym, ap, ◌∙◌, subst, arith}
 use Rattle.signal_list.specs.SignalText.{trimmed, is_signal, IsFault}
+use Rattle.signal_list.specs.Names.{IsAsked}
 use Rattle.signal_list.specs.Reading.{JoinsOf, IsFaultAfter}
-use Rattle.signal_list.proofs.Progress.{IsReadUpTo, passes, adds, fails, ends-empty}
+use Rattle.signal_list.proofs.Progress.{IsReadUpTo, passes, adds, is-asked, fails, ends-empty}
 use Rattle.signal_list.proofs.reading.read_lits.Goals as goal
 
 pub loop-line-preserved-then-not-is_signal : goal.loop-line-preserved-then-not-is_signal
@@ -15,7 +16,6 @@ loop-line-preserved-then-not-is_signal c =
       can = tt;
       finite = tt;
       count = omega (arith, ap length steps, loop.invariant.count);
-      names = loop.invariant.names;
       read = passes c.args.circuit.now c.args.bytes.now loop.number line rest loop.lits
           (subst (λ (ls : List (List ℕ)). IsReadUpTo c.args.circuit.now c.args.bytes.now loop.number ls loop.lits) steps loop.invariant.read) other;
     }
@@ -31,7 +31,6 @@ loop-line-preserved c =
       can = tt;
       finite = tt;
       count = omega (arith, ap length steps, loop.invariant.count);
-      names = c.in_default.ensures.names ∙ loop.invariant.names;
       read = adds c.args.circuit.now c.args.bytes.now loop.number line rest loop.lits c.add_signal.new.lits
           (subst (λ (ls : List (List ℕ)). IsReadUpTo c.args.circuit.now c.args.bytes.now loop.number ls loop.lits) steps loop.invariant.read) signal
           (subst (λ (l : List ℕ). JoinsOf c.args.circuit.now l loop.lits c.add_signal.new.lits) c.trim_spaces-line.ensures c.in_default.ensures.ok);
@@ -52,3 +51,11 @@ returns-then-is_empty-clause-fault c =
     let loop = c.loop-line in
     ends-empty c.args.circuit.now c.args.bytes.now loop.number loop.lits
     (subst (λ (ls : List (List ℕ)). IsReadUpTo c.args.circuit.now c.args.bytes.now loop.number ls loop.lits) c.in-None.ensures.steps.0 loop.invariant.read) (c.is_empty.ensures.0 c.if-is_empty.true)
+
+pub add_signal-requires-clause-asked : goal.add_signal-requires-clause-asked
+add_signal-requires-clause-asked c =
+    let line = c.in-Some.line.now in
+    let loop = c.loop-line in
+    subst (λ (l : List ℕ). IsAsked l c.in_ok-owners.owners) (sym c.trim_spaces-line.ensures)
+    (is-asked c.args.circuit.now c.args.bytes.now loop.number line c.next.new.self loop.lits c.in_ok-owners.owners
+    (subst (λ (ls : List (List ℕ)). IsReadUpTo c.args.circuit.now c.args.bytes.now loop.number ls loop.lits) c.in-Some.ensures.steps loop.invariant.read) c.in_ok-owners.ensures.asked)

@@ -8,6 +8,5 @@ invariant-loop-line l = record {
   can : (goal.iterator-loop-line).can_next l.line-iterator;
   finite : (goal.iterator-loop-line).is_finite l.line-iterator;
   count : l.number + length l.line-iterator ≡ length (lines l.bytes);
-  names : l.names ≡ l.circuit.names;
   read : IsReadUpTo l.circuit l.bytes l.number l.line-iterator l.lits;
 }
