@@ -28,6 +28,14 @@ impl Model for Circuit {
 }
 
 impl Circuit {
+    /// Takes no memory, and looks at nothing.
+    pub fn new(parts: Parts) -> Circuit
+        requires { IsCircuit parts }
+        ensures { result ≡ parts }
+    {
+        Circuit { parts }
+    }
+
     /// Takes a bit or two for each variable while it looks.
     pub fn build(alloc: Global, parts: Parts) -> Result<Circuit, BuildFault>
         requires sized { IsSized parts }
