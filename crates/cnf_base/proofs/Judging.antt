@@ -3,7 +3,7 @@ use Rattle.std.proofs.Common.{◌≡◌, true, false, ◌||◌, ℤ, neg_ℤ, Li
 use Rattle.std.specs.List.{list_any, list_all}
 use Rattle.std.proofs.lemmas.Bool.{or_cases, cases_Bool, or_right, or_parts, or_from, and_parts, and_from, both_ways, false_from_ne_true, not-true, not-false, not_from_false}
 use Rattle.cnf_base.specs.declared.judged.Judged.{Judged}
-use Rattle.cnf_base.specs.declared.judged.Judged.TheVariants.{Passed, Ended, Forces}
+use Rattle.cnf_base.specs.declared.judged.Judged.TheVariants.{Passed, Ended, Forces, Open}
 use Rattle.cnf_base.specs.Judged.{same_lit, has, IsFalseIn, IsOpenIn, IsPassedIn, IsRefutedIn, IsUnitIn, is_open, judged_by_open, judge}
 use Rattle.cnf_base.proofs.Literals.{same_lit-true, same_lit-itself, same_lit-apart, has-head, has-filter, list_any-found, list_any-at, list_any-none}
 
@@ -144,3 +144,48 @@ forces_from assumed c l h =
           | inl e ↦ sym (same_lit-true l m e)
           | inr e ↦ absurd (both_ways (has assumed (neg_ℤ m)) (open_from assumed m there.1).1 (h.others m there.0 (λ same. same_lit-apart l m e (sym same))).1)
         ]
+
+-- two open literals that differ
+pub record AreOpen (assumed clause : List ℤ) : Type 0 where
+  pub first : ℤ
+  pub second : ℤ
+  pub first_in : has clause first ≡ true
+  pub second_in : has clause second ≡ true
+  pub different : first ≡ second → ⊥
+  pub first_open : IsOpenIn assumed first
+  pub second_open : IsOpenIn assumed second
+
+differs_from : (o : ℤ) (os : List ℤ) → list_all (same_lit o) os ≡ false → (m : ℤ) × (has os m ≡ true) × (same_lit o m ≡ false)
+differs_from o [] h = cc
+differs_from o (x ∷ xs) h =
+    elim (cases_Bool (same_lit o x)) [
+      | inl e ↦ (let later : list_all (same_lit o) xs ≡ false = rw e at h in
+          let found = differs_from o xs later in
+          (found.0, or_right (same_lit x found.0) (has xs found.0) found.1, found.2))
+      | inr e ↦ (x, has-head x xs, e)
+    ]
+
+open_by : (os : List ℤ) → judged_by_open os ≡ Open → (l : ℤ) × (m : ℤ) × (has os l ≡ true) × (has os m ≡ true) × (l ≡ m → ⊥)
+open_by [] h = cc
+open_by (o ∷ os) h =
+    elim (cases_Bool (list_all (same_lit o) os)) [
+      | inl e ↦ (let k : Forces o ≡ Open = rw e at h in cc)
+      | inr e ↦ (let found = differs_from o os e in
+          (o, found.0, has-head o os, or_right (same_lit o found.0) (has os found.0) found.1, same_lit-apart o found.0 found.2))
+    ]
+
+pub open_says : (assumed c : List ℤ) → judge assumed c ≡ Open → AreOpen assumed c
+open_says assumed c h =
+    let plain = none_true assumed c Open h (λ e. cc) in
+    let found = open_by (filter (is_open assumed) c) (sym (by_open assumed c plain) ∙ h) in
+    let first = there_open assumed c found.0 found.2 in
+    let second = there_open assumed c found.1 found.3 in
+    record {
+      first = found.0;
+      second = found.1;
+      first_in = first.0;
+      second_in = second.0;
+      different = found.4;
+      first_open = open_from assumed found.0 first.1;
+      second_open = open_from assumed found.1 second.1;
+    }

@@ -4,7 +4,7 @@ use Rattle.std.specs.List.{slice_range, list_any, IsDistinct, AllByRecursion, Al
 use Rattle.std.specs.Cmp.{nat_eq_equiv}
 use Rattle.std.proofs.lemmas.Bool.{cases_lt, or_parts, cases_eq, ne_eqb, eq-eqb, eqb-false}
 use Rattle.std.proofs.lemmas.List.{drop-take, get_or_default, length-take, take-take, get_or-take, get_or-replicate, get_or_past, length-replicate, map_push, take_more_set, take-map, length-map, length-take-le, length-set, length_push, get_or-set_same, get_or-set_other, take-append-drop}
-use Rattle.std.proofs.lemmas.List.Elements.{All-drop, All-weaker, All-push, All-take, recursion_from_All}
+use Rattle.std.proofs.lemmas.List.Elements.{All-get_or, All-drop, All-weaker, All-push, All-take, recursion_from_All}
 use Rattle.std.proofs.lemmas.Map.Keys.{IsDistinct-push, IsDistinct-from_apart, apart_from_distinct}
 use Rattle.cnf_base.specs.Judged.{same_lit}
 use Rattle.cnf_base.specs.Dimacs.{IsLiteral}
@@ -311,3 +311,16 @@ whole_upto t level h is =
     (ap (λ qs. made qs level (min t.low (length (upto level t.puts)))) same
     ∙ ap (λ n. made t.puts n (min t.low (length (upto level t.puts)))) is
     ∙ ap (made t.puts t.level) low_is)
+
+-- the variable of a literal that is kept
+pub literal_in_range : (vars count level low : ℕ) (causes : List Cause) (all_lits : List ℤ) (values : List Value) (ends : List ℕ) (place : ℕ) (d : ℤ) → Held vars count level low causes all_lits values ends → place < count → nat_abs (get_or all_lits place d) < length causes
+literal_in_range vars count level low causes all_lits values ends place d h lt =
+    let P : List ℤ → Type 0 = λ ls. All (IsLiteral vars) ls in
+    let all = subst P (lits-puts causes (take count all_lits)) h.trail.in_range in
+    let room = h.lits_room in
+    let number = h.number in
+    let wide : place < length (take count all_lits) = omega (arith, length-take count all_lits) in
+    let here = All-get_or (IsLiteral vars) (take count all_lits) place d wide all in
+    let Q : ℤ → Type 0 = λ l. nat_abs l < length causes in
+    let le = here.variable in
+    subst Q (get_or-take count all_lits place d lt) (let size = h.causes_room in omega arith)

@@ -1,11 +1,11 @@
 -- What is read of a trail.
 use Rattle.std.proofs.Common.{◌≡◌, ℕ, ◌<◌, ◌≤◌, ℤ, pos, nat_abs, Some, None, List, length, map, take, get_or, ap, sym, ◌∙◌, subst, arith, inl, inr}
 use Rattle.std.proofs.lemmas.Bool.{cases_Bool}
-use Rattle.std.proofs.lemmas.List.{get_or_default}
+use Rattle.std.proofs.lemmas.List.{length-map, get_or-map, get_or_default}
 use Rattle.sat_trail.specs.declared.truth.Value.{Value}
 use Rattle.sat_trail.specs.declared.truth.Value.TheVariants.{Unset}
 use Rattle.sat_trail.specs.declared.cause.Cause.{Cause}
-use Rattle.sat_trail.specs.Trail.{value_in, put_of}
+use Rattle.sat_trail.specs.Trail.{Put, levels, value_in, put_of}
 use Rattle.sat_trail.specs.Kept.{no_cause, put_with, put_from, state_of, kept_value, IsKept}
 use Rattle.sat_trail.proofs.Valuing.{touches, unset_touches, untouched_unset}
 use Rattle.sat_trail.proofs.Keeping.{lits-puts, find_touched, find_untouched}
@@ -32,3 +32,15 @@ put_of_set vars count level low causes all_lits values ends var cause h within s
           (found.0, found.2 ∙ ap (λ c. Some (put_with c found.0)) same))
       | inr e ↦ absurd (set (touched_is vars count level low causes all_lits values ends var h within ∙ untouched_unset (take count all_lits) (pos var) e))
     ]
+
+-- the level of the literal at a place
+pub level_read : (causes : List Cause) (ls : List ℤ) (place : ℕ) (lit : ℤ) (cause : Cause) → place < length ls → lit ≡ get_or ls place lit → nat_abs lit < length causes → cause ≡ get_or causes (nat_abs lit) cause → cause.level ≡ get_or (levels (map (put_from causes) ls)) place 0
+level_read causes ls place lit cause lt lit_is room cause_is =
+    let puts = map (put_from causes) ls in
+    let here : get_or ls place lit ≡ lit = sym lit_is in
+    let wide : place < length puts = omega (arith, length-map ls (put_from causes)) in
+    sym
+    (get_or-map (λ (p : Put). p.level) puts place (put_from causes lit) 0 wide
+    ∙ ap (λ (p : Put). p.level) (get_or-map (put_from causes) ls place lit (put_from causes lit) lt)
+    ∙ ap (λ l. (put_from causes l).level) here
+    ∙ ap (λ (c : Cause). c.level) (get_or_any causes (nat_abs lit) cause no_cause room cause_is))

@@ -23,6 +23,9 @@ pub record TrailState : Type 0 where
 abbrev pub lits : List Put → List ℤ
 lits puts = map (λ p. p.lit) puts
 
+abbrev pub levels : List Put → List ℕ
+levels puts = map (λ p. p.level) puts
+
 -- the literals up to a level
 abbrev pub upto : ℕ → List Put → List Put
 upto level puts = filter (λ p. nat_le p.level level) puts

@@ -1,7 +1,7 @@
 //! The trail.
 
-ghost use Rattle.std.specs.Prelude.{◌≡◌, ◌+◌, ◌<◌, ◌≤◌, ◌++◌, ◌∷◌, [], min, length, nat_abs, slice_index_or, option_map, option_and_then, Some, None, IfOk, IsTrue, ◌↔◌};
-ghost use Rattle.sat_trail.specs.Trail.{lits, upto, value_in, put_of, IsTrail};
+ghost use Rattle.std.specs.Prelude.{◌≡◌, ◌+◌, ◌<◌, ◌≤◌, ◌++◌, ◌∷◌, [], min, length, nat_abs, slice_index, slice_index_or, option_map, option_and_then, Some, None, IfOk, IsTrue, ◌↔◌};
+ghost use Rattle.sat_trail.specs.Trail.{lits, levels, upto, value_in, put_of, IsTrail};
 
 use crate::cause::Cause;
 use crate::clause_id::ClauseId;
@@ -165,7 +165,9 @@ impl Trail {
 
     /// How many literals the trail holds.
     pub fn len(&self) -> u32
-        ensures { result ≡ length self.now.puts }
+        ensures value { result ≡ length self.now.puts }
+        ensures at_most { result ≤ self.now.vars }
+        ensures well_formed { IsTrail self.now }
     {
         self.count
     }
@@ -185,9 +187,19 @@ impl Trail {
         self.lits[place as usize]
     }
 
+    /// The level of the literal at this place.
+    pub fn level_at(&self, place: u32) -> u32
+        requires { place < length self.now.puts }
+        ensures { result ≡ slice_index (levels self.now.puts) place }
+    {
+        let lit = self.lits[place as usize];
+        self.causes[lit.var() as usize].level
+    }
+
     /// The least number of literals that the trail has held since the last `mark`, or else since it was made.
     pub fn low(&self) -> u32
-        ensures { result ≡ self.now.low }
+        ensures value { result ≡ self.now.low }
+        ensures at_most { result ≤ length self.now.puts }
     {
         self.low
     }

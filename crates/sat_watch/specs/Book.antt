@@ -1,5 +1,5 @@
 -- A book of clauses, what a trail makes of them, and what propagation puts on the trail.
-use Rattle.std.specs.Prelude.{◌≡◌, ℕ, ◌+◌, ◌<◌, ◌≤◌, nat_eq, ℤ, nat_abs, Some, List, [], ◌∷◌, ◌++◌, length, map, slice_get, All}
+use Rattle.std.specs.Prelude.{◌≡◌, ℕ, ◌<◌, ◌≤◌, nat_eq, ℤ, nat_abs, Some, List, [], ◌∷◌, ◌++◌, length, map, slice_get, All}
 use Rattle.std.specs.List.{IsDistinct}
 use Rattle.cnf_base.specs.Judged.{IsRefutedIn, IsUnitIn}
 use Rattle.cnf_base.specs.Dimacs.{IsLiteral}

@@ -1,5 +1,5 @@
 -- How a book is kept: beside the clauses, for each literal the places of the clauses that have its negation.
-use Rattle.std.specs.Prelude.{◌≡◌, ℕ, zero, suc, ◌+◌, ◌*◌, ◌<◌, ◌≤◌, IsTrue, Bool, true, ℤ, pos, negsuc, neg_ℤ, nat_abs, Some, List, [], ◌∷◌, length, map, take, slice_get, slice_index, slice_index_or, All, Contains}
+use Rattle.std.specs.Prelude.{◌≡◌, ℕ, ◌+◌, ◌*◌, ◌<◌, ◌≤◌, IsTrue, Bool, ℤ, pos, negsuc, neg_ℤ, Some, List, [], length, map, take, slice_get, slice_index, slice_index_or, All, Contains, ◌⊎◌}
 use Rattle.cnf_base.specs.Judged.{has, IsRefutedIn, IsUnitIn}
 use Rattle.sat_watch.specs.declared.mark.Mark.{Mark}
 use Rattle.sat_watch.specs.Book.{BookState, IsBookClause}
@@ -28,6 +28,14 @@ mark_levels seen = map (λ m. m.level) seen
 abbrev pub BeginsLevel : List Mark → ℕ → Type 0
 BeginsLevel seen place = (j : ℕ) → j < place → slice_index (mark_levels seen) j < slice_index (mark_levels seen) place
 
+-- levels never fall
+abbrev pub IsRising : List Mark → Type 0
+IsRising seen = (i j : ℕ) → i ≤ j → j < length seen → slice_index (mark_levels seen) i ≤ slice_index (mark_levels seen) j
+
+-- where a look may start: at the front, at the first place of a level, or, if all was calm, past all that was seen
+abbrev pub IsStart : List Mark → Bool → ℕ → Type 0
+IsStart seen calm start = (start ≡ 0) ⊎ (((start < length seen) × BeginsLevel seen start) ⊎ (IsTrue calm × (length seen ≤ start)))
+
 -- the clauses are calm where the literals before a level are true, for each level that was seen
 abbrev pub CalmBefore : List (List ℤ) → List Mark → Type 0
 CalmBefore clauses seen = (place : ℕ) → place < length seen → BeginsLevel seen place → All (IsCalm (take place (mark_lits seen))) clauses
@@ -40,7 +48,7 @@ pub record IsKept (b : BookState) (lists : List (List ℕ)) (all_seen : List Mar
   pub seen_room : length all_seen ≡ b.vars
   pub number : count ≤ b.vars
   pub some_looked : looked ≤ length b.clauses
-  pub rising : (i j : ℕ) → i ≤ j → j < length b.seen → slice_index (mark_levels b.seen) i ≤ slice_index (mark_levels b.seen) j
+  pub rising : IsRising b.seen
   pub calm_before : CalmBefore (take looked b.clauses) b.seen
   -- after Quiet the clauses that were looked at are calm under all that was seen
   pub calm_whole : IsTrue calm → All (IsCalm (mark_lits b.seen)) (take looked b.clauses)

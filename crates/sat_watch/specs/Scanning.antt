@@ -1,9 +1,8 @@
 -- What the parts of propagation leave.
-use Rattle.std.specs.Prelude.{◌≡◌, ◌≢◌, ℕ, ◌<◌, cond, IsTrue, IsFalse, ℤ, neg_ℤ, Some, List, slice_get, ◌⊎◌}
+use Rattle.std.specs.Prelude.{◌≡◌, ◌≢◌, ℕ, cond, IsTrue, IsFalse, ℤ, neg_ℤ, Some, List, slice_get, ◌⊎◌}
 use Rattle.cnf_base.specs.declared.judged.Judged.{Judged}
 use Rattle.cnf_base.specs.declared.judged.Judged.TheVariants.{Passed, Ended, Forces, Open}
 use Rattle.cnf_base.specs.Judged.{same_lit, has, IsPassedIn, IsRefutedIn}
-use Rattle.sat_trail.specs.Trail.{lits}
 
 -- a judgement with one more open literal
 abbrev pub widened : Judged → ℤ → Judged

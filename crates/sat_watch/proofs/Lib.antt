@@ -1,0 +1,5 @@
+pub mod Following
+pub mod Resting
+pub mod Spreading
+pub mod ListsGrow
+pub mod Seeing

@@ -1,0 +1,145 @@
+//! The book of clauses.
+
+ghost use Rattle.std.specs.Prelude.{◌≡◌, ℤ, List, ◌≤◌, ◌++◌, ◌∷◌, [], All, length, take, IsTrue, ◌↔◌, IfOk, OnOk, OnErr};
+ghost use Rattle.sat_trail.specs.Trail.{lits};
+ghost use Rattle.sat_watch.specs.Book.{IsBookClause, IsClauseOf, NoneFalseBelow, NoneUnitBelow, marks, Spreads, ScanIs};
+
+use crate::listing::{append, empty_lists, place_of};
+use crate::mark::Mark;
+use crate::scan::{Scan, is_quiet};
+use crate::seen::{first_marks, note, start_of};
+use crate::spread::spread;
+use cnf_base::{Clause, CnfLit};
+use ketch_base::{OutOfMemory, Sequence};
+use sat_trail::{ClauseId, Trail};
+use std::alloc::Global;
+use std::marker::Model;
+
+/// Clauses of two literals or more, and their propagation.
+///
+/// Variables go from 1 to `vars`, at most 4,000,000.
+#[derive(Debug, Drop)]
+pub struct ClauseBook {
+    vars: u32,
+    alloc: Global,
+    clauses: Sequence<Clause>,
+    lists: Vec<Sequence<u32>>,
+    seen: Vec<Mark>,
+    count: u32,
+    looked: usize,
+    calm: bool,
+}
+
+impl Model for ClauseBook {
+    ghost use Rattle.std.specs.Prelude.{take};
+    ghost use Rattle.sat_watch.specs.Book.{BookState};
+    ghost use Rattle.sat_watch.specs.Kept.{IsKept};
+
+    ghost Value = { BookState };
+
+    ghost view = { λ b. record { vars = b.vars; clauses = b.clauses; seen = take b.count b.seen.items } };
+
+    ghost invariant = { λ b. IsKept (record { vars = b.vars; clauses = b.clauses; seen = take b.count b.seen.items })
+        b.lists.items b.seen.items b.count b.looked b.calm };
+}
+
+impl ClauseBook {
+    pub fn new(alloc: Global, vars: u32) -> Result<ClauseBook, OutOfMemory>
+        requires { vars ≤ 4000000 }
+        ensures { IfOk result (λ book. book ≡ record { vars = vars; clauses = []; seen = [] }) }
+    {
+        let lists = empty_lists(alloc, 2 * vars as usize + 2)?;
+        let blank = Mark {
+            lit: CnfLit::new(1),
+            level: 0,
+        };
+        let seen = vec![in alloc; blank; vars as usize]?;
+        Ok(ClauseBook {
+            vars,
+            alloc,
+            clauses: Sequence::new(alloc),
+            lists,
+            seen,
+            count: 0,
+            looked: 0,
+            calm: true,
+        })
+    }
+
+    /// The variables are 1 up to this number.
+    pub fn vars(&self) -> u32
+        ensures value { result ≡ self.now.vars }
+        ensures well_formed { All (IsBookClause self.now.vars) self.now.clauses }
+    {
+        self.vars
+    }
+
+    /// How many clauses there are.
+    pub fn len(&self) -> usize
+        ensures { result ≡ length self.now.clauses }
+    {
+        self.clauses.len()
+    }
+
+    pub fn is_empty(&self) -> bool
+        ensures { IsTrue result ↔ (self.now.clauses ≡ []) }
+    {
+        self.clauses.is_empty()
+    }
+
+    /// Adds the clause at the end. The trail is the one that is propagated.
+    pub fn add(&mut self, lits: &Clause, trail: &Trail) -> Result<ClauseId, OutOfMemory>
+        requires clause { IsBookClause self.old.vars lits.now }
+        requires vars { trail.now.vars ≡ self.old.vars }
+        ensures id { IfOk result (λ id. id ≡ ClauseId.Book (length self.old.clauses)) }
+        ensures ok { OnOk result (self.new ≡ record self.old { clauses = self.old.clauses ++ lits.now ∷ [] }) }
+        ensures err { OnErr result (self.new ≡ self.old) }
+    {
+        let _ = trail;
+        let place = place_of(self.clauses.len())?;
+        append(self.alloc, &mut self.clauses, &mut self.lists, lits, place)?;
+        Ok(ClauseId::Book(u64::from(place)))
+    }
+
+    /// The id is one of those that `add` answered.
+    pub fn clause(&self, id: ClauseId) -> &Clause
+        requires { (c : List ℤ) × IsClauseOf self.now.clauses id c }
+        ensures { IsClauseOf self.now.clauses id result.now }
+    {
+        match id {
+            ClauseId::Book(place) => self.clauses.get(place as usize),
+            ClauseId::Unit(_) => unreachable!(),
+        }
+    }
+
+    /// Puts on the trail what its literals force, until nothing is left or a clause is false. It may be called again after
+    /// a conflict, and then finds a clause that is false for as long as there is one.
+    pub fn propagate(&mut self, trail: &mut Trail) -> Scan
+        requires vars { trail.old.vars ≡ self.old.vars }
+        requires agrees { take trail.old.low (marks trail.old.puts) ≡ take trail.old.low self.old.seen }
+        requires none_false { NoneFalseBelow self.old.clauses trail.old }
+        requires none_unit { NoneUnitBelow self.old.clauses trail.old }
+        ensures book { self.new ≡ record self.old { seen = marks trail.new.puts } }
+        ensures spreads { Spreads self.old.clauses trail.old trail.new }
+        ensures marked { trail.new.low ≡ length trail.new.puts }
+        ensures answer { ScanIs self.old.clauses (lits trail.new.puts) result }
+    {
+        let low = trail.low();
+        let start = start_of(first_marks(&self.seen, self.count), low, self.calm);
+        let scan = spread(
+            self.clauses.as_slice(),
+            &self.lists,
+            self.looked,
+            start,
+            trail,
+        );
+        note(&mut self.seen, trail, low);
+        let count = trail.len();
+        let looked = self.clauses.len();
+        self.count = count;
+        self.looked = looked;
+        self.calm = is_quiet(scan);
+        trail.mark();
+        scan
+    }
+}

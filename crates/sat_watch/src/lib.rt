@@ -1,0 +1,14 @@
+//! The clauses that a solver has, and their propagation.
+#![tactic(auto)]
+
+mod book;
+mod examine;
+mod listing;
+mod mark;
+mod scan;
+mod seen;
+mod spread;
+
+pub use book::ClauseBook;
+pub use mark::Mark;
+pub use scan::Scan;
