@@ -7,3 +7,4 @@ pub mod OneReading
 pub mod Owners
 pub mod Progress
 pub mod Signals
+pub mod SomeReading

@@ -152,7 +152,7 @@ within-or-none {X} xs k none within = elim (slice_get_cases xs k).1 as (λ _. �
   | inr past ↦ omega (arith, past.0)
 ]
 
-no-place : (c : Parts) (p : Place) → literal_at c p ≡ None → ¬ Exists c p
+pub no-place : (c : Parts) (p : Place) → literal_at c p ≡ None → ¬ Exists c p
 no-place c (places.Input k) e = within-or-none c.inputs k e
 no-place c (places.Latch k) e = λ within. within-or-none (latch_lits c.latches) k e (omega (arith, within, length-latch_lits c))
 no-place c (places.Output k) e = within-or-none c.outputs k e

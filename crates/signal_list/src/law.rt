@@ -1,12 +1,15 @@
 //! A law of the format.
 
-ghost use Rattle.std.specs.Prelude.{◌≡◌, ℕ, List};
+ghost use Rattle.std.specs.Prelude.{◌≡◌, ◌⊎◌, ℕ, List};
 ghost use Rattle.aig_model.specs.declared.parts.Parts.{Parts};
+ghost use Rattle.aig_model.specs.WellFormed.{IsCircuit};
 ghost use Rattle.signal_list.specs.SignalText.{SpellsSignals, IsFirstFault};
 ghost use Rattle.signal_list.specs.declared.fault.SigKind.{SigKind};
 
-/// A text spells one list of signals, or has one first fault, and never two of these.
-pub fn no_text_is_read_two_ways()
+/// Each text spells one list of signals of a circuit, or it has one first fault.
+pub fn each_text_is_read_one_way()
+    ensures some { (c : Parts) (text : List ℕ) → IsCircuit c → ((lits : List ℕ) × SpellsSignals c text lits)
+        ⊎ ((line : ℕ) × (kind : SigKind) × IsFirstFault c text line kind) }
     ensures one_list { (c : Parts) (text k l : List ℕ) →
         SpellsSignals c text k → SpellsSignals c text l → k ≡ l }
     ensures one_fault { (c : Parts) (text : List ℕ) (m n : ℕ) (k l : SigKind) →

@@ -12,5 +12,5 @@ mod signal;
 mod tests;
 
 pub use fault::{SigFault, SigKind};
-pub use law::no_text_is_read_two_ways;
+pub use law::each_text_is_read_one_way;
 pub use reading::read_signals;
