@@ -5,15 +5,18 @@ use Rattle.std.proofs.lemmas.Bool.Decides.{nat_tests}
 use Rattle.aig_model.specs.declared.parts.Parts.{Parts}
 use Rattle.report_text.specs.declared.report.GoalBlock.TheVariants as blocks
 use Rattle.cover_run.specs.declared.stop.File.TheVariants as files
+use Rattle.report_text.specs.declared.options.Options.{Options}
+use Rattle.cover_run.specs.declared.stop.Measure.{Measure}
+use Rattle.cover_run.specs.declared.stop.Measure.TheVariants as measures
 use Rattle.cover_run.specs.declared.stop.Stop.{Stop}
 use Rattle.cover_run.specs.declared.stop.Stop.TheVariants as stops
 use Rattle.cover_run.specs.declared.stop.Status.{Status}
 use Rattle.cover_run.specs.declared.stop.Status.TheVariants as statuses
 use Rattle.cover_run.specs.Answer.{IsOutput, IsAnswer, Cause}
-use Rattle.cover_run.specs.Covering.{IsCircuitText, IsSignalsText, IsNoCircuit, IsNoSignals, HasCircuit, HasSignals, HasSomeCircuit, RefusesCircuit, RefusesSignals, IsCoverOutput}
+use Rattle.cover_run.specs.Covering.{frames_of, walk_of, HasRoom, IsTooMuch, IsCircuitText, IsSignalsText, IsNoCircuit, IsNoSignals, HasCircuit, HasSignals, HasSomeCircuit, RefusesCircuit, RefusesSignals, IsCoverOutput}
 use Rattle.cover_run.specs.Files.{limit_of, IsTooLong}
 use Rattle.cover_run.specs.FirstForms.{SpellsCircuit, SpellsSignals}
-use Rattle.cover_run.specs.Promises.{IsTold, IsToldTooLong, Accepts, IsUndisturbed, IsCovered, SettlesAsked, Headline, Completeness, BadCircuitComes, BadSignalsComes, LongCircuitComes, LongSignalsComes}
+use Rattle.cover_run.specs.Promises.{IsTold, IsToldTooLong, Accepts, IsUndisturbed, IsCovered, SettlesAsked, Headline, Completeness, TooMuchComes, BadCircuitComes, BadSignalsComes, LongCircuitComes, LongSignalsComes}
 use Rattle.cover_run.specs.Report.{IsReport}
 use Rattle.cover_run.specs.Seen.{DeskSeen, SinkSeen, HasFaulted, Failed, Took}
 use Rattle.cover_run.specs.Stops.{status_of, settled_status}
@@ -22,7 +25,7 @@ use Rattle.cover_run.proofs.WhereTold.{IfSome-at}
 use Rattle.cover_run.proofs.CircuitText.{one_circuit}
 use Rattle.cover_run.proofs.SignalText.{one_signals}
 use Rattle.cover_run.proofs.Promised.{told_long, settled_either, not_ended, stopped_so}
-use Rattle.cover_run.proofs.Stopped.{CoverStops, circuit_unreadable, circuit_long, bad_circuit, signals_unreadable, signals_long, bad_signals, not_written, memory, cover_stops}
+use Rattle.cover_run.proofs.Stopped.{CoverStops, too_much, circuit_unreadable, circuit_long, bad_circuit, signals_unreadable, signals_long, bad_signals, not_written, memory, cover_stops}
 
 cover_output : (command : Command) (call : CoverCall) (d : DeskSeen) (bytes : List ℕ) (settled : Bool) → command ≡ Cover call → IsOutput command d bytes settled → IsCoverOutput call d bytes settled
 cover_output command call d bytes settled e o = subst (λ (x : Command). IsOutput x d bytes settled) e o
@@ -62,6 +65,7 @@ no_circuit_stops call d out stop t told none (bad_circuit e h) = inl e
 no_circuit_stops call d out stop t told none (signals_unreadable e has h) = absurd (told_none call d t told.told none has)
 no_circuit_stops call d out stop t told none (signals_long e has h) = absurd (told_none call d t told.told none has)
 no_circuit_stops call d out stop t told none (bad_signals e h) = absurd (told_none call d t told.told none (h.0, h.1))
+no_circuit_stops call d out stop t told none (too_much m e c sig has has_signals h) = absurd (told_none call d t told.told none (c, has))
 no_circuit_stops call d out stop t told none (not_written e h bytes settled o) = absurd (told_none call d t told.told none (o.circuit, o.has_circuit))
 no_circuit_stops call d out stop t told none (memory e) = inr e
 
@@ -92,6 +96,7 @@ long_circuit_stops call d out stop t long (bad_circuit e h) = absurd (too_long_r
 long_circuit_stops call d out stop t long (signals_unreadable e has h) = absurd (too_long_none call d t has.0 long has.1)
 long_circuit_stops call d out stop t long (signals_long e has h) = absurd (too_long_none call d t has.0 long has.1)
 long_circuit_stops call d out stop t long (bad_signals e h) = absurd (too_long_none call d t h.0 long h.1)
+long_circuit_stops call d out stop t long (too_much m e c sig has has_signals h) = absurd (too_long_none call d t c long has)
 long_circuit_stops call d out stop t long (not_written e h bytes settled o) = absurd (too_long_none call d t o.circuit long o.has_circuit)
 long_circuit_stops call d out stop t long (memory e) = inr e
 
@@ -107,6 +112,7 @@ data SignalsStops (call : CoverCall) (d : DeskSeen) (out : SinkSeen) (c : Parts)
   unreadable : HasFaulted d call.signals → SignalsStops call d out c stop
   long : stop ≡ stops.TooLong files.Signals → IsTooLong d files.Signals call.signals → SignalsStops call d out c stop
   refused : stop ≡ stops.BadSignals → RefusesSignals call d → SignalsStops call d out c stop
+  asks_too_much : (m : Measure) → stop ≡ stops.TooLarge m → (sig : List ℕ) → HasSignals call d c sig → IsTooMuch call.options c m → SignalsStops call d out c stop
   written : Failed out → (bytes : List ℕ) (settled : Bool) → IsCoverOutput call d bytes settled → SignalsStops call d out c stop
   short_of_memory : stop ≡ stops.OutOfMemory → SignalsStops call d out c stop
 
@@ -118,6 +124,9 @@ after_circuit call d out stop t c told spells (bad_circuit e h) = absurd (told_r
 after_circuit call d out stop t c told spells (signals_unreadable e has h) = unreadable h
 after_circuit call d out stop t c told spells (signals_long e has h) = long e h
 after_circuit call d out stop t c told spells (bad_signals e h) = refused e h
+after_circuit call d out stop t c told spells (too_much m e k sig has has_signals h) =
+    let same = same_told call d t c k told.told spells has in
+    asks_too_much m e sig (subst (λ (x : Parts). HasSignals call d x sig) same has_signals) (subst (λ (x : Parts). IsTooMuch call.options x m) same h)
 after_circuit call d out stop t c told spells (not_written e h bytes settled o) = written h bytes settled o
 after_circuit call d out stop t c told spells (memory e) = short_of_memory e
 
@@ -127,6 +136,8 @@ no_signals_stops : (call : CoverCall) (d : DeskSeen) (out : SinkSeen) (stop : St
 no_signals_stops call d out stop t u c told spells also none (unreadable h) = absurd (also.no_fault h)
 no_signals_stops call d out stop t u c told spells also none (long e h) = absurd (told_long d files.Signals call.signals u also.told also.short h)
 no_signals_stops call d out stop t u c told spells also none (refused e h) = inl e
+no_signals_stops call d out stop t u c told spells also none (asks_too_much m e sig has h) =
+    absurd (none sig (IfSome-at (IsSignalsText c sig) (d.text call.signals) u also.told has).spells)
 no_signals_stops call d out stop t u c told spells also none (written h bytes settled o) =
     absurd (none o.signals (signals_spelled call d t u c o.circuit o.signals told.told spells also.told o.has_circuit o.has_signals).spells)
 no_signals_stops call d out stop t u c told spells also none (short_of_memory e) = inr e
@@ -147,6 +158,8 @@ long_signals_stops : (call : CoverCall) (d : DeskSeen) (out : SinkSeen) (stop : 
 long_signals_stops call d out stop t u c told spells past (unreadable h) = absurd (past.no_fault h)
 long_signals_stops call d out stop t u c told spells past (long e h) = inl e
 long_signals_stops call d out stop t u c told spells past (refused e h) = absurd (too_long_signals call d u past (signals_none call d t u c told.told spells past.told h).short)
+long_signals_stops call d out stop t u c told spells past (asks_too_much m e sig has h) =
+    absurd (too_long_signals call d u past (IfSome-at (IsSignalsText c sig) (d.text call.signals) u past.told has).short)
 long_signals_stops call d out stop t u c told spells past (written h bytes settled o) =
     absurd (too_long_signals call d u past (signals_spelled call d t u c o.circuit o.signals told.told spells past.told o.has_circuit o.has_signals).short)
 long_signals_stops call d out stop t u c told spells past (short_of_memory e) = inr e
@@ -159,6 +172,44 @@ long_signals_comes command d out err status (inr s) call t c u e told spells pas
     stopped_so command d out err status (stops.TooLong files.Signals) s
     (long_signals_stops call d out s.stop t u c told spells past (after_circuit call d out s.stop t c told spells (stops_of command call d out s.stop e s.stopped.cause)))
 
+-- ---- what is asked is too much
+not_too_much : (o : Options) (c : Parts) (m : Measure) → HasRoom o c → IsTooMuch o c m → ⊥
+not_too_much o c measures.Formula room h = h
+not_too_much o c measures.Frames room h = let fits : frames_of o c ≤ 4000000 = room.frames in omega arith
+not_too_much o c measures.Walk room h = let fits : walk_of o c ≤ 2000000 = room.walk in let past : 2000000 < walk_of o c = h.1 in omega arith
+
+-- the first measure past its limit is one
+one_measure : (o : Options) (c : Parts) (m n : Measure) → IsTooMuch o c m → IsTooMuch o c n → m ≡ n
+one_measure o c measures.Formula n h i = absurd h
+one_measure o c measures.Frames measures.Formula h i = absurd i
+one_measure o c measures.Frames measures.Frames h i = refl
+one_measure o c measures.Frames measures.Walk h i = absurd (let fits : frames_of o c ≤ 4000000 = i.0 in omega arith)
+one_measure o c measures.Walk measures.Formula h i = absurd i
+one_measure o c measures.Walk measures.Frames h i = absurd (let fits : frames_of o c ≤ 4000000 = h.0 in omega arith)
+one_measure o c measures.Walk measures.Walk h i = refl
+
+too_much_stops : (call : CoverCall) (d : DeskSeen) (out : SinkSeen) (stop : Stop) (t u sig : List ℕ) (c : Parts) (m : Measure) → IsTold d files.Circuit call.circuit t
+    → SpellsCircuit t c → IsTold d files.Signals call.signals u → SpellsSignals c u sig → IsTooMuch call.options c m → SignalsStops call d out c stop
+    → (stop ≡ stops.TooLarge m) ⊎ (stop ≡ stops.OutOfMemory)
+too_much_stops call d out stop t u sig c m told spells also spells_signals much (unreadable h) = absurd (also.no_fault h)
+too_much_stops call d out stop t u sig c m told spells also spells_signals much (long e h) = absurd (told_long d files.Signals call.signals u also.told also.short h)
+too_much_stops call d out stop t u sig c m told spells also spells_signals much (refused e h) =
+    absurd ((signals_none call d t u c told.told spells also.told h).none sig spells_signals)
+too_much_stops call d out stop t u sig c m told spells also spells_signals much (asks_too_much n e other has h) =
+    inl (e ∙ ap (λ (x : Measure). stops.TooLarge x) (one_measure call.options c n m h much))
+too_much_stops call d out stop t u sig c m told spells also spells_signals much (written h bytes settled o) =
+    absurd (not_too_much call.options c m (subst (λ (x : Parts). HasRoom call.options x) (same_told call d t c o.circuit told.told spells o.has_circuit) o.room) much)
+too_much_stops call d out stop t u sig c m told spells also spells_signals much (short_of_memory e) = inr e
+
+pub too_much_comes : (command : Command) (d : DeskSeen) (out err : SinkSeen) (status : Status) → IsAnswer command d out err status → TooMuchComes command d err status
+too_much_comes command d out err status (inl w) call t c u sig m e told spells also spells_signals much =
+    let o = cover_output command call d w.whole.bytes w.settled e w.whole.output in
+    absurd (not_too_much call.options c m (subst (λ (x : Parts). HasRoom call.options x) (same_told call d t c o.circuit told.told spells o.has_circuit) o.room) much)
+too_much_comes command d out err status (inr s) call t c u sig m e told spells also spells_signals much =
+    stopped_so command d out err status (stops.TooLarge m) s
+    (too_much_stops call d out s.stop t u sig c m told spells also spells_signals much
+    (after_circuit call d out s.stop t c told spells (stops_of command call d out s.stop e s.stopped.cause)))
+
 -- ---- a whole output of a command whose texts are accepted
 settled_means : (settled : Bool) (status : Status) (n : ℕ) → status ≡ settled_status settled → settled ≡ nat_eq n 0 → (status ≡ statuses.Settled) ↔ (n ≡ 0)
 settled_means true status n e s = (λ _. grind (arith, nat_tests), λ _. e)
@@ -169,6 +220,7 @@ covered_by : (call : CoverCall) (d : DeskSeen) (out : SinkSeen) (status : Status
 covered_by call d out status bytes settled o took e = record {
   bytes = bytes;
   took = took;
+  room = o.room;
   is_report = o.is_report;
   ended = settled_either settled status e;
   settled = settled_means settled status o.is_report.report.unsettled e o.settled_is;
@@ -194,25 +246,26 @@ closed_block : (c : Parts) (sig : List ℕ) (call : CoverCall) (bytes : List ℕ
 closed_block c sig call bytes r goal (blocks.Reached n witness) at asked = refl
 closed_block c sig call bytes r goal (blocks.Open depth hops strength) at asked = absurd ((r.tells.goals goal (blocks.Open depth hops strength) at).not_asked asked)
 
-accepted_signals : (call : CoverCall) (d : DeskSeen) (out : SinkSeen) (c : Parts) (sig : List ℕ) (stop : Stop) → Accepts call d c sig → IsUndisturbed (Cover call) d out
+accepted_signals : (call : CoverCall) (d : DeskSeen) (out : SinkSeen) (c : Parts) (sig : List ℕ) (stop : Stop) → Accepts call d c sig → HasRoom call.options c → IsUndisturbed (Cover call) d out
     → SignalsStops call d out c stop → stop ≡ stops.OutOfMemory
-accepted_signals call d out c sig stop a u (unreadable h) = absurd (u.files files.Signals h)
-accepted_signals call d out c sig stop a u (long e h) = absurd (told_long d files.Signals call.signals a.signals_text a.signals_told a.signals_short h)
-accepted_signals call d out c sig stop a u (refused e h) = absurd ((signals_none call d a.circuit_text a.signals_text c a.circuit_told a.circuit a.signals_told h).none sig a.signals)
-accepted_signals call d out c sig stop a u (written h bytes settled o) = absurd (u.output h)
-accepted_signals call d out c sig stop a u (short_of_memory e) = e
+accepted_signals call d out c sig stop a room u (unreadable h) = absurd (u.files files.Signals h)
+accepted_signals call d out c sig stop a room u (long e h) = absurd (told_long d files.Signals call.signals a.signals_text a.signals_told a.signals_short h)
+accepted_signals call d out c sig stop a room u (refused e h) = absurd ((signals_none call d a.circuit_text a.signals_text c a.circuit_told a.circuit a.signals_told h).none sig a.signals)
+accepted_signals call d out c sig stop a room u (asks_too_much m e other has h) = absurd (not_too_much call.options c m room h)
+accepted_signals call d out c sig stop a room u (written h bytes settled o) = absurd (u.output h)
+accepted_signals call d out c sig stop a room u (short_of_memory e) = e
 
-undisturbed_stop : (call : CoverCall) (d : DeskSeen) (out : SinkSeen) (c : Parts) (sig : List ℕ) (stop : Stop) → Accepts call d c sig → IsUndisturbed (Cover call) d out
+undisturbed_stop : (call : CoverCall) (d : DeskSeen) (out : SinkSeen) (c : Parts) (sig : List ℕ) (stop : Stop) → Accepts call d c sig → HasRoom call.options c → IsUndisturbed (Cover call) d out
     → CoverStops call d out stop → stop ≡ stops.OutOfMemory
-undisturbed_stop call d out c sig stop a u h =
+undisturbed_stop call d out c sig stop a room u h =
     let told : IsTold d files.Circuit call.circuit a.circuit_text = record { told = a.circuit_told; short = a.circuit_short; no_fault = u.files files.Circuit } in
-    accepted_signals call d out c sig stop a u (after_circuit call d out stop a.circuit_text c told a.circuit h)
+    accepted_signals call d out c sig stop a room u (after_circuit call d out stop a.circuit_text c told a.circuit h)
 
 pub completeness : (command : Command) (d : DeskSeen) (out err : SinkSeen) (status : Status) → IsAnswer command d out err status → Completeness command d out status
-completeness command d out err status (inl w) call c sig e accepts undisturbed =
+completeness command d out err status (inl w) call c sig e accepts room undisturbed =
     let whole = covered call d out status c sig w.whole.bytes w.settled accepts (cover_output command call d w.whole.bytes w.settled e w.whole.output) w.whole.took w.status_is in
     inl (record { covered = whole; asked = closed_block c sig call whole.bytes whole.is_report })
-completeness command d out err status (inr s) call c sig e accepts undisturbed =
+completeness command d out err status (inr s) call c sig e accepts room undisturbed =
     let by = stops_of command call d out s.stop e s.stopped.cause in
-    let memory = undisturbed_stop call d out c sig s.stop accepts (subst (λ (x : Command). IsUndisturbed x d out) e undisturbed) by in
+    let memory = undisturbed_stop call d out c sig s.stop accepts room (subst (λ (x : Command). IsUndisturbed x d out) e undisturbed) by in
     inr (s.status_is ∙ ap status_of memory)

@@ -1,6 +1,7 @@
 -- What the answer of a run promises, whatever the command.
 use Rattle.std.proofs.Common.{◌≡◌, ◌↔◌, ℕ, ◌<◌, ◌≤◌, Bool, true, false, List, length, Some, inl, inr, refl, sym, ◌∙◌, ap, subst, arith}
 use Rattle.std.specs.Prelude.{◌⊎◌, IsSomeAnd}
+use Rattle.std.proofs.lemmas.Option.{none-some}
 use Rattle.cover_run.specs.declared.stop.File.{File}
 use Rattle.cover_run.specs.declared.stop.Measure.{Measure}
 use Rattle.cover_run.specs.declared.stop.Refusal.{Refusal}
@@ -8,12 +9,14 @@ use Rattle.cover_run.specs.declared.stop.Stop.{Stop}
 use Rattle.cover_run.specs.declared.stop.Stop.TheVariants as stops
 use Rattle.cover_run.specs.declared.stop.Status.{Status}
 use Rattle.cover_run.specs.declared.stop.Status.TheVariants as statuses
-use Rattle.cover_run.specs.Answer.{HasBadCircuit, HasBadSignals, IsTooLarge, IsRefused, IsAnswer, IsStoppedAnswer, Cause}
+use Rattle.cover_run.specs.Answer.{HasBadCircuit, HasBadSignals, IsTooLarge, IsRefused, IsOutput, IsAnswer, IsStoppedAnswer, Cause}
 use Rattle.cover_run.specs.Files.{name_of, limit_of, IsTooLong, IsWithin}
-use Rattle.cover_run.specs.Promises.{HasEnded, Answers, ReadFaultCause, BadCircuitCause, BadSignalsCause, LimitCause, WithinLimits, RefusedCause, PrefixAfterFault, SaysLine}
-use Rattle.cover_run.specs.Seen.{DeskSeen, SinkSeen, HasFaulted, Failed, TookWhatItCould}
+use Rattle.cover_run.specs.Promises.{fixed_text, IsPrinted, PrintedCause, PrintedComes, HasEnded, Answers, ReadFaultCause, BadCircuitCause, BadSignalsCause, LimitCause, WithinLimits, RefusedCause, PrefixAfterFault, SaysLine}
+use Rattle.cover_run.specs.Seen.{DeskSeen, SinkSeen, HasFaulted, Failed, Took, TookWhatItCould}
 use Rattle.cover_run.specs.Stops.{line_of, status_of, settled_status, UnlessTooLong}
-use Rattle.cover_run.specs.Words.{Command, Usage, Cover, Lrat}
+use Rattle.cover_run.specs.Words.{Command, Usage, Help, Version, Cover, Lrat}
+use Rattle.cover_run.specs.About.{help_text, version_text}
+use Rattle.cover_run.proofs.Stopped.{fixed_stops}
 use Rattle.cover_run.proofs.WhereTold.{IfSome-at}
 
 pub told_long : (d : DeskSeen) (f : File) (name t : List ℕ) → d.text name ≡ Some t → length t ≤ limit_of f → IsTooLong d f name → ⊥
@@ -105,6 +108,8 @@ used command d out stops.OutOfMemory cause e = absurd (cause e)
 
 pub usage : (command : Command) (d : DeskSeen) (out err : SinkSeen) (status : Status) → IsAnswer command d out err status → (status ≡ statuses.Usage) ↔ (command ≡ Usage)
 usage Usage d out err status (inl w) = absurd w.whole.output
+usage Help d out err status (inl w) = (λ e. absurd (not_ended stops.Usage status e (settled_either w.settled status w.status_is)), λ e. absurd cc)
+usage Version d out err status (inl w) = (λ e. absurd (not_ended stops.Usage status e (settled_either w.settled status w.status_is)), λ e. absurd cc)
 usage (Cover call) d out err status (inl w) = (λ e. absurd (not_ended stops.Usage status e (settled_either w.settled status w.status_is)), λ e. absurd cc)
 usage (Lrat call) d out err status (inl w) = (λ e. absurd (not_ended stops.Usage status e (settled_either w.settled status w.status_is)), λ e. absurd cc)
 usage command d out err status (inr s) =
@@ -142,3 +147,37 @@ pub stopped_so : (command : Command) (d : DeskSeen) (out err : SinkSeen) (status
     → (s.stop ≡ wanted) ⊎ (s.stop ≡ stops.OutOfMemory) → Answers err status wanted
 stopped_so command d out err status wanted s (inl e) = inl (s.status_is ∙ ap status_of e, subst (λ (x : Stop). TookWhatItCould err (line_of x)) e s.said)
 stopped_so command d out err status wanted s (inr e) = inr (s.status_is ∙ ap status_of e)
+
+-- ---- a fixed text
+text_whole : (command : Command) (d : DeskSeen) (text bytes : List ℕ) (settled : Bool) → fixed_text command ≡ Some text → IsOutput command d bytes settled
+    → (bytes ≡ text) × (settled ≡ true)
+text_whole Usage d text bytes settled e o = absurd o
+text_whole Help d text bytes settled e o = (let same : help_text ≡ text = cc in o.0 ∙ same, o.1)
+text_whole Version d text bytes settled e o = (let same : version_text ≡ text = cc in o.0 ∙ same, o.1)
+text_whole (Cover call) d text bytes settled e o = absurd (none-some text e)
+text_whole (Lrat call) d text bytes settled e o = absurd (none-some text e)
+
+with_text : (command : Command) (text : List ℕ) → fixed_text command ≡ Some text → (command ≡ Help) ⊎ (command ≡ Version)
+with_text Usage text e = absurd (none-some text e)
+with_text Help text e = inl refl
+with_text Version text e = inr refl
+with_text (Cover call) text e = absurd (none-some text e)
+with_text (Lrat call) text e = absurd (none-some text e)
+
+printed_by : (command : Command) (d : DeskSeen) (out : SinkSeen) (status : Status) (text bytes : List ℕ) (settled : Bool) → fixed_text command ≡ Some text
+    → IsOutput command d bytes settled → Took out bytes → status ≡ settled_status settled → IsPrinted text out status
+printed_by command d out status text bytes settled e o took at =
+    let same = text_whole command d text bytes settled e o in
+    record { settled = at ∙ ap settled_status same.1; took = subst (λ (xs : List ℕ). Took out xs) same.0 took }
+
+pub printed : (command : Command) (d : DeskSeen) (out err : SinkSeen) (status : Status) → IsAnswer command d out err status → PrintedCause command out status
+printed command d out err status (inl w) text e ended = printed_by command d out status text w.whole.bytes w.settled e w.whole.output w.whole.took w.status_is
+printed command d out err status (inr s) text e ended = absurd (not_ended s.stop status s.status_is ended)
+
+pub printed_comes : (command : Command) (d : DeskSeen) (out err : SinkSeen) (status : Status) → IsAnswer command d out err status → PrintedComes command out status
+printed_comes command d out err status (inl w) text e fine = inl (printed_by command d out status text w.whole.bytes w.settled e w.whole.output w.whole.took w.status_is)
+printed_comes command d out err status (inr s) text e fine =
+    elim (fixed_stops command d out s.stop (with_text command text e) s.stopped.cause) [
+      | inl failed ↦ absurd (fine failed)
+      | inr memory ↦ inr (s.status_is ∙ ap status_of memory)
+    ]

@@ -1,11 +1,6 @@
 -- How the files of a command are read.
-use Rattle.std.proofs.Common.{◌≡◌, ℕ, ◌+◌, ◌≤◌, List, [], ◌∷◌, length, Option, Some, IfSome, inl, inr, sym, ◌∙◌, subst, arith}
-use Rattle.std.specs.Prelude.{◌==◌, IsSomeAnd, count_by}
-use Rattle.std.specs.List.{slice_split}
-use Rattle.std.proofs.lemmas.List.{length-map}
-use Rattle.std.proofs.lemmas.List.Sums.{count_by-le-length}
-use Rattle.std.proofs.lemmas.List.Splits.{length-slice_split}
-use Rattle.text_words.specs.Lines.{lines, without_returns, without_empty_last}
+use Rattle.std.proofs.Common.{◌≡◌, ℕ, ◌≤◌, List, length, Option, Some, IfSome, inl, inr, sym, ◌∙◌, subst, arith}
+use Rattle.std.specs.Prelude.{IsSomeAnd}
 use Rattle.cnf_base.specs.Dimacs.{IsFirstFault as IsFirstInFormula}
 use Rattle.cnf_base.specs.declared.fault.DimacsKind.{DimacsKind}
 use Rattle.cnf_base.specs.declared.fault.DimacsKind.TheVariants as dimacs
@@ -23,21 +18,6 @@ use Rattle.cover_run.specs.Steps.{IsLeftOrRead, FormulaCause}
 use Rattle.cover_run.specs.Stops.{UnlessTooLong}
 use Rattle.cover_run.specs.Words.{LratCall, Command, Lrat}
 use Rattle.cover_run.proofs.WhereTold.{IfSome-map}
-
--- ---- a text has at most one line more than bytes
-parts-le : (parts : List (List ℕ)) → length (without_empty_last parts) ≤ length parts
-parts-le [] = omega arith
-parts-le ([] ∷ []) = omega arith
-parts-le ([] ∷ (part ∷ parts)) = omega (arith, parts-le (part ∷ parts))
-parts-le ((b ∷ bs) ∷ parts) = omega (arith, parts-le parts)
-
-pub lines-le : (text : List ℕ) → length (lines text) ≤ length text + 1
-lines-le text =
-    let parts = slice_split (λ (b : ℕ). b == 10) text in
-    let mapped : length (lines text) ≡ length (without_empty_last parts) = length-map (without_empty_last parts) without_returns in
-    let split : length parts ≡ count_by (λ (b : ℕ). b == 10) text + 1 = length-slice_split (λ (b : ℕ). b == 10) text in
-    let few : count_by (λ (b : ℕ). b == 10) text ≤ length text = count_by-le-length (λ (b : ℕ). b == 10) text in
-    omega (arith, parts-le parts)
 
 -- ---- what holds unless the file is too long
 pub unless-of : (stop : Stop) (P : Type 0) → P → UnlessTooLong stop P
@@ -75,7 +55,7 @@ joined d e = record {
   given_after = e.given_after;
 }
 
-file_within : (command : Command) (d : DeskSeen) (f : File) (name : List ℕ) → name_of command f ≡ Some name → IsRead d f name → IsWithin command d
+pub file_within : (command : Command) (d : DeskSeen) (f : File) (name : List ℕ) → name_of command f ≡ Some name → IsRead d f name → IsWithin command d
 file_within command d f name named read =
     inr (f, subst (λ (o : Option (List ℕ)). IsSomeAnd o (IsRead d f)) (sym named) read)
 
@@ -103,6 +83,8 @@ formula_refused call d bytes read (stops.TooLarge measures.Formula) is short tol
   IfSome-map (λ (t : List ℕ). bytes ≡ t) (HasFormulaFault cause.0 dimacs.Limit) (d.text call.formula)
       (λ t same. formula_fault bytes read t cause.0 dimacs.Limit is short cause.1 same) told,
 )
+formula_refused call d bytes read (stops.TooLarge measures.Frames) is short told cause = absurd cause
+formula_refused call d bytes read (stops.TooLarge measures.Walk) is short told cause = absurd cause
 formula_refused call d bytes read stops.BadCircuit is short told cause = absurd cause
 formula_refused call d bytes read stops.BadSignals is short told cause = absurd cause
 formula_refused call d bytes read (stops.Refused (refusals.Formula line kind)) is short told cause = (

@@ -1,6 +1,7 @@
 -- Why each command can stop: its causes alone, without the stops that are never its own.
-use Rattle.std.proofs.Common.{◌≡◌, ℕ, Bool, List, Some, IfSome, refl}
-use Rattle.std.specs.Prelude.{◌≢◌}
+use Rattle.std.proofs.Common.{◌≡◌, ℕ, Bool, List, Some, IfSome, refl, inl, inr, subst}
+use Rattle.std.specs.Prelude.{◌≢◌, ◌⊎◌}
+use Rattle.aig_model.specs.declared.parts.Parts.{Parts}
 use Rattle.cnf_base.specs.Meaning.{CnfFormula}
 use Rattle.cnf_base.specs.declared.fault.DimacsKind.{DimacsKind}
 use Rattle.cnf_base.specs.declared.fault.DimacsKind.TheVariants as dimacs
@@ -9,16 +10,17 @@ use Rattle.lrat_text.specs.declared.proof.LratStep.{LratStep}
 use Rattle.lrat_check.specs.declared.fault.ProofKind.{ProofKind}
 use Rattle.lrat_check.specs.FirstFault.{first_fault}
 use Rattle.cover_run.specs.declared.stop.File.TheVariants as files
+use Rattle.cover_run.specs.declared.stop.Measure.{Measure}
 use Rattle.cover_run.specs.declared.stop.Measure.TheVariants as measures
 use Rattle.cover_run.specs.declared.stop.Refusal.TheVariants as refusals
 use Rattle.cover_run.specs.declared.stop.Stop.{Stop}
 use Rattle.cover_run.specs.declared.stop.Stop.TheVariants as stops
 use Rattle.cover_run.specs.Answer.{Cause}
 use Rattle.cover_run.specs.Checking.{formula_stop, HasFormula, HasProof, HasFormulaFault, HasProofFault, HasSomeFormula, IsLratOutput}
-use Rattle.cover_run.specs.Covering.{HasSomeCircuit, RefusesCircuit, RefusesSignals, IsCoverOutput}
+use Rattle.cover_run.specs.Covering.{HasCircuit, HasSignals, IsTooMuch, HasSomeCircuit, RefusesCircuit, RefusesSignals, IsCoverOutput}
 use Rattle.cover_run.specs.Files.{IsTooLong}
 use Rattle.cover_run.specs.Seen.{DeskSeen, SinkSeen, HasFaulted, Failed}
-use Rattle.cover_run.specs.Words.{CoverCall, LratCall, Cover, Lrat}
+use Rattle.cover_run.specs.Words.{CoverCall, LratCall, Command, Help, Version, Cover, Lrat}
 
 pub data CoverStops (call : CoverCall) (d : DeskSeen) (out : SinkSeen) (stop : Stop) : Type 0 where
   circuit_unreadable : stop ≡ stops.Unreadable files.Circuit → HasFaulted d call.circuit → CoverStops call d out stop
@@ -27,6 +29,8 @@ pub data CoverStops (call : CoverCall) (d : DeskSeen) (out : SinkSeen) (stop : S
   signals_unreadable : stop ≡ stops.Unreadable files.Signals → HasSomeCircuit call d → HasFaulted d call.signals → CoverStops call d out stop
   signals_long : stop ≡ stops.TooLong files.Signals → HasSomeCircuit call d → IsTooLong d files.Signals call.signals → CoverStops call d out stop
   bad_signals : stop ≡ stops.BadSignals → RefusesSignals call d → CoverStops call d out stop
+  too_much : (m : Measure) → stop ≡ stops.TooLarge m → (c : Parts) (sig : List ℕ) → HasCircuit call d c → HasSignals call d c sig → IsTooMuch call.options c m
+      → CoverStops call d out stop
   not_written : stop ≡ stops.CannotWrite → Failed out → (bytes : List ℕ) (settled : Bool) → IsCoverOutput call d bytes settled → CoverStops call d out stop
   memory : stop ≡ stops.OutOfMemory → CoverStops call d out stop
 
@@ -40,7 +44,7 @@ cover_stops call d out (stops.TooLong files.Circuit) cause = circuit_long refl c
 cover_stops call d out (stops.TooLong files.Signals) cause = signals_long refl cause.0 cause.1
 cover_stops call d out (stops.TooLong files.Formula) cause = absurd cause.0
 cover_stops call d out (stops.TooLong files.Proof) cause = absurd cause.0
-cover_stops call d out (stops.TooLarge measures.Formula) cause = absurd cause
+cover_stops call d out (stops.TooLarge m) cause = too_much m refl cause.0 cause.1 cause.2 cause.3 cause.4
 cover_stops call d out stops.BadCircuit cause = bad_circuit refl cause
 cover_stops call d out stops.BadSignals cause = bad_signals refl cause
 cover_stops call d out (stops.Refused why) cause = absurd cause
@@ -78,6 +82,8 @@ lrat_stops call d out (stops.TooLong files.Signals) cause = absurd cause.0
 lrat_stops call d out (stops.TooLong files.Formula) cause = formula_long refl cause.1
 lrat_stops call d out (stops.TooLong files.Proof) cause = proof_long refl cause.0 cause.1
 lrat_stops call d out (stops.TooLarge measures.Formula) cause = bad_formula cause.0 dimacs.Limit refl cause.1
+lrat_stops call d out (stops.TooLarge measures.Frames) cause = absurd cause
+lrat_stops call d out (stops.TooLarge measures.Walk) cause = absurd cause
 lrat_stops call d out stops.BadCircuit cause = absurd cause
 lrat_stops call d out stops.BadSignals cause = absurd cause
 lrat_stops call d out (stops.Refused (refusals.Formula line kind)) cause = bad_formula line kind (refused_formula line kind cause.0) cause.1
@@ -85,3 +91,31 @@ lrat_stops call d out (stops.Refused (refusals.Proof line kind)) cause = bad_pro
 lrat_stops call d out (stops.Refused (refusals.Step step kind)) cause = bad_step step kind refl cause.0 cause.1 cause.2 cause.3 cause.4
 lrat_stops call d out stops.CannotWrite cause = not_accepted_written refl cause.0 cause.1.0 cause.1.1 cause.1.2
 lrat_stops call d out stops.OutOfMemory cause = no_memory refl
+
+help_stops : (d : DeskSeen) (out : SinkSeen) (stop : Stop) → Cause Help d out stop → Failed out ⊎ (stop ≡ stops.OutOfMemory)
+help_stops d out stops.Usage cause = absurd cc
+help_stops d out (stops.Unreadable f) cause = absurd cause.0
+help_stops d out (stops.TooLong f) cause = absurd cause.0
+help_stops d out (stops.TooLarge m) cause = absurd cause
+help_stops d out stops.BadCircuit cause = absurd cause
+help_stops d out stops.BadSignals cause = absurd cause
+help_stops d out (stops.Refused why) cause = absurd cause
+help_stops d out stops.CannotWrite cause = inl cause.0
+help_stops d out stops.OutOfMemory cause = inr refl
+
+version_stops : (d : DeskSeen) (out : SinkSeen) (stop : Stop) → Cause Version d out stop → Failed out ⊎ (stop ≡ stops.OutOfMemory)
+version_stops d out stops.Usage cause = absurd cc
+version_stops d out (stops.Unreadable f) cause = absurd cause.0
+version_stops d out (stops.TooLong f) cause = absurd cause.0
+version_stops d out (stops.TooLarge m) cause = absurd cause
+version_stops d out stops.BadCircuit cause = absurd cause
+version_stops d out stops.BadSignals cause = absurd cause
+version_stops d out (stops.Refused why) cause = absurd cause
+version_stops d out stops.CannotWrite cause = inl cause.0
+version_stops d out stops.OutOfMemory cause = inr refl
+
+-- a command with a fixed text stops only where it isn't written, or for want of memory
+pub fixed_stops : (command : Command) (d : DeskSeen) (out : SinkSeen) (stop : Stop) → (command ≡ Help) ⊎ (command ≡ Version) → Cause command d out stop
+    → Failed out ⊎ (stop ≡ stops.OutOfMemory)
+fixed_stops command d out stop (inl e) cause = help_stops d out stop (subst (λ (x : Command). Cause x d out stop) e cause)
+fixed_stops command d out stop (inr e) cause = version_stops d out stop (subst (λ (x : Command). Cause x d out stop) e cause)

@@ -1,5 +1,5 @@
 -- How a run ends, and why.
-use Rattle.std.specs.Prelude.{◌≡◌, ◌≢◌, ◌⊎◌, ℕ, Bool, List, IsSomeAnd}
+use Rattle.std.specs.Prelude.{◌≡◌, ◌≢◌, ◌⊎◌, ℕ, Bool, true, List, IsSomeAnd}
 use Rattle.run_io.specs.Sink.{GrewByPrefix}
 use Rattle.cover_run.specs.declared.stop.File.{File}
 use Rattle.cover_run.specs.declared.stop.File.TheVariants as files
@@ -9,17 +9,20 @@ use Rattle.cover_run.specs.declared.stop.Refusal.{Refusal}
 use Rattle.cover_run.specs.declared.stop.Stop.{Stop}
 use Rattle.cover_run.specs.declared.stop.Stop.TheVariants as stops
 use Rattle.cover_run.specs.declared.stop.Status.{Status}
+use Rattle.cover_run.specs.About.{help_text, version_text}
 use Rattle.cover_run.specs.Checking.{HasSomeFormula, HasLargeFormula, Refuses, IsLratOutput}
-use Rattle.cover_run.specs.Covering.{HasSomeCircuit, RefusesCircuit, RefusesSignals, IsCoverOutput}
+use Rattle.cover_run.specs.Covering.{HasSomeCircuit, RefusesCircuit, RefusesSignals, HasTooMuch, IsCoverOutput}
 use Rattle.cover_run.specs.Files.{name_of, IsTooLong, IsWithin}
 use Rattle.cover_run.specs.Seen.{DeskSeen, SinkSeen, HasFaulted, Failed, Took, TookWhatItCould}
 use Rattle.cover_run.specs.Stops.{status_of, settled_status, line_of, UnlessTooLong}
-use Rattle.cover_run.specs.Words.{Command, Usage, Cover, Lrat}
+use Rattle.cover_run.specs.Words.{Command, Usage, Help, Version, Cover, Lrat}
 
 -- ---- the output of a command
 -- these bytes are the whole output, and this says whether it leaves nothing open
 abbrev pub IsOutput : Command → DeskSeen → List ℕ → Bool → Type 0
 IsOutput Usage d bytes settled = ⊥
+IsOutput Help d bytes settled = (bytes ≡ help_text) × (settled ≡ true)
+IsOutput Version d bytes settled = (bytes ≡ version_text) × (settled ≡ true)
 IsOutput (Cover call) d bytes settled = IsCoverOutput call d bytes settled
 IsOutput (Lrat call) d bytes settled = IsLratOutput call d bytes settled
 
@@ -42,6 +45,7 @@ HasBadSignals command d = ⊥
 
 -- a number of the input is past its limit
 abbrev pub IsTooLarge : Command → DeskSeen → Measure → Type 0
+IsTooLarge (Cover call) d m = HasTooMuch call d m
 IsTooLarge (Lrat call) d measures.Formula = HasLargeFormula call d
 IsTooLarge command d m = ⊥
 

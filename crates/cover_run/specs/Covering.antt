@@ -1,7 +1,10 @@
 -- What `cover` reads and writes.
-use Rattle.std.specs.Prelude.{◌≡◌, ℕ, ◌≤◌, Bool, nat_eq, List, length, IfSome}
+use Rattle.std.specs.Prelude.{◌≡◌, ℕ, ◌+◌, ◌*◌, ◌<◌, ◌≤◌, max, Bool, nat_eq, List, length, IfSome}
 use Rattle.aig_model.specs.declared.parts.Parts.{Parts}
+use Rattle.report_text.specs.declared.options.Options.{Options}
 use Rattle.cover_run.specs.declared.stop.File.TheVariants as files
+use Rattle.cover_run.specs.declared.stop.Measure.{Measure}
+use Rattle.cover_run.specs.declared.stop.Measure.TheVariants as measures
 use Rattle.cover_run.specs.FirstForms.{SpellsCircuit, SpellsSignals}
 use Rattle.cover_run.specs.Files.{limit_of}
 use Rattle.cover_run.specs.Report.{IsReport}
@@ -37,12 +40,35 @@ HasSignals call d c sig = IfSome (d.text call.signals) (IsSignalsText c sig)
 abbrev pub HasSomeCircuit : CoverCall → DeskSeen → Type 0
 HasSomeCircuit call d = (c : Parts) × HasCircuit call d c
 
+-- ---- the sizes of a run
+-- the frames of the longest search, and a walk: how many truth values each may take
+abbrev pub frames_of : Options → Parts → ℕ
+frames_of o c = (max o.depth o.hop + 1) * (c.top + 1)
+
+abbrev pub walk_of : Options → Parts → ℕ
+walk_of o c = o.length * (length c.inputs + 1)
+
+-- both are within their limits
+pub record HasRoom (o : Options) (c : Parts) : Type 0 where
+  pub frames : frames_of o c ≤ 4000000
+  pub walk : walk_of o c ≤ 2000000
+
+-- the first of them that is past its limit
+abbrev pub IsTooMuch : Options → Parts → Measure → Type 0
+IsTooMuch o c measures.Frames = 4000000 < frames_of o c
+IsTooMuch o c measures.Walk = (frames_of o c ≤ 4000000) × (2000000 < walk_of o c)
+IsTooMuch o c m = ⊥
+
 -- ---- the refusals
 abbrev pub RefusesCircuit : CoverCall → DeskSeen → Type 0
 RefusesCircuit call d = IfSome (d.text call.circuit) IsNoCircuit
 
 abbrev pub RefusesSignals : CoverCall → DeskSeen → Type 0
 RefusesSignals call d = (c : Parts) × HasCircuit call d c × IfSome (d.text call.signals) (IsNoSignals c)
+
+-- both texts are accepted, and what is asked for is too much
+abbrev pub HasTooMuch : CoverCall → DeskSeen → Measure → Type 0
+HasTooMuch call d m = (c : Parts) × (sig : List ℕ) × HasCircuit call d c × HasSignals call d c sig × IsTooMuch call.options c m
 
 -- ---- the output
 -- These bytes are the whole output, and this says whether it leaves nothing open.
@@ -51,5 +77,6 @@ pub record IsCoverOutput (call : CoverCall) (d : DeskSeen) (bytes : List ℕ) (s
   pub signals : List ℕ
   pub has_circuit : HasCircuit call d circuit
   pub has_signals : HasSignals call d circuit signals
+  pub room : HasRoom call.options circuit
   pub is_report : IsReport circuit signals call.options bytes
   pub settled_is : settled ≡ nat_eq is_report.report.unsettled 0

@@ -1,3 +1,4 @@
+pub mod About
 pub mod Answer
 pub mod Blocks
 pub mod Checking
@@ -12,6 +13,7 @@ pub mod Posts
 pub mod Promises
 pub mod Report
 pub mod Seen
+pub mod Settings
 pub mod Steps
 pub mod Stops
 pub mod Summed

@@ -13,5 +13,7 @@ lrat_call call = record { formula = call.formula.now; proof = call.proof.now }
 
 abbrev pub command_of : Order → commands.Command
 command_of orders.Usage = commands.Usage
+command_of orders.Help = commands.Help
+command_of orders.Version = commands.Version
 command_of (orders.Cover call) = commands.Cover (cover_call call)
 command_of (orders.Lrat call) = commands.Lrat (lrat_call call)

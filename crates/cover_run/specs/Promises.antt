@@ -1,5 +1,5 @@
 -- The promises of a run, each readable by itself.
-use Rattle.std.specs.Prelude.{◌≡◌, ◌⊎◌, ◌↔◌, ℕ, ◌<◌, ◌≤◌, false, List, length, slice_get, codes, Some, IfSome, IsSomeAnd}
+use Rattle.std.specs.Prelude.{◌≡◌, ◌⊎◌, ◌↔◌, ℕ, ◌<◌, ◌≤◌, false, List, length, slice_get, codes, Option, Some, None, IfSome, IsSomeAnd}
 use Rattle.aig_model.specs.declared.parts.Parts.{Parts}
 use Rattle.cnf_base.specs.Dimacs.{SpellsFormula, IsFirstFault as IsFirstInFormula}
 use Rattle.cnf_base.specs.Meaning.{CnfFormula, HasNoModel}
@@ -21,13 +21,15 @@ use Rattle.cover_run.specs.declared.stop.Stop.TheVariants as stops
 use Rattle.cover_run.specs.declared.stop.Status.{Status}
 use Rattle.cover_run.specs.declared.stop.Status.TheVariants as statuses
 use Rattle.cover_run.specs.Answer.{Cause, HasBadCircuit, HasBadSignals, IsTooLarge, IsRefused, IsPartial}
+use Rattle.cover_run.specs.About.{help_text, version_text}
 use Rattle.cover_run.specs.Checking.{formula_stop}
+use Rattle.cover_run.specs.Covering.{HasRoom, IsTooMuch}
 use Rattle.cover_run.specs.Files.{name_of, limit_of, IsTooLong, IsWithin}
 use Rattle.cover_run.specs.FirstForms.{SpellsCircuit, SpellsSignals}
 use Rattle.cover_run.specs.Report.{IsReport, Asked, bounds_of, is_open}
 use Rattle.cover_run.specs.Seen.{DeskSeen, SinkSeen, HasFaulted, Failed, Took, TookWhatItCould}
 use Rattle.cover_run.specs.Stops.{line_of, status_of}
-use Rattle.cover_run.specs.Words.{CoverCall, LratCall, Command, Cover, Lrat}
+use Rattle.cover_run.specs.Words.{CoverCall, LratCall, Command, Help, Version, Cover, Lrat}
 
 -- ---- premises
 -- the desk tells this text of the file's name, within the file's limit, and no fault of the name was counted
@@ -82,6 +84,7 @@ Answers err status stop = ((status ≡ status_of stop) × TookWhatItCould err (l
 pub record IsCovered (call : CoverCall) (c : Parts) (sig : List ℕ) (out : SinkSeen) (status : Status) : Type 0 where
   pub bytes : List ℕ
   pub took : Took out bytes
+  pub room : HasRoom call.options c
   pub is_report : IsReport c sig call.options bytes
   pub ended : HasEnded status
   pub settled : (status ≡ statuses.Settled) ↔ (is_report.report.unsettled ≡ 0)
@@ -103,7 +106,7 @@ pub record IsComplete (call : CoverCall) (c : Parts) (sig : List ℕ) (out : Sin
 -- with no cause of a refusal and no fault, the whole report is written, want of memory aside
 abbrev pub Completeness : Command → DeskSeen → SinkSeen → Status → Type 0
 Completeness command d out status =
-    (call : CoverCall) (c : Parts) (sig : List ℕ) → command ≡ Cover call → Accepts call d c sig → IsUndisturbed command d out
+    (call : CoverCall) (c : Parts) (sig : List ℕ) → command ≡ Cover call → Accepts call d c sig → HasRoom call.options c → IsUndisturbed command d out
     → IsComplete call c sig out status ⊎ (status ≡ statuses.WantOfMemory)
 
 -- ---- a proof is accepted
@@ -124,6 +127,25 @@ abbrev pub AcceptedComes : Command → DeskSeen → SinkSeen → Status → Type
 AcceptedComes command d out status =
     (call : LratCall) (f : CnfFormula) (p : List LratStep) → command ≡ Lrat call → Spells call d f p → Accepted f p → IsUndisturbed command d out
     → IsProved f p out status ⊎ (status ≡ statuses.WantOfMemory)
+
+-- ---- a text that is always the same
+abbrev pub fixed_text : Command → Option (List ℕ)
+fixed_text Help = Some help_text
+fixed_text Version = Some version_text
+fixed_text command = None
+
+-- the output took exactly the text
+pub record IsPrinted (text : List ℕ) (out : SinkSeen) (status : Status) : Type 0 where
+  pub settled : status ≡ statuses.Settled
+  pub took : Took out text
+
+-- status 0 or 1 comes only with the text, and is 0
+abbrev pub PrintedCause : Command → SinkSeen → Status → Type 0
+PrintedCause command out status = (text : List ℕ) → fixed_text command ≡ Some text → HasEnded status → IsPrinted text out status
+
+-- and there it comes, where nothing failed
+abbrev pub PrintedComes : Command → SinkSeen → Status → Type 0
+PrintedComes command out status = (text : List ℕ) → fixed_text command ≡ Some text → ¬ Failed out → IsPrinted text out status ⊎ (status ≡ statuses.WantOfMemory)
 
 -- ---- causes, status by status
 -- only where the faults of the file in the line rose
@@ -164,6 +186,12 @@ abbrev pub BadSignalsComes : Command → DeskSeen → SinkSeen → Status → Ty
 BadSignalsComes command d err status =
     (call : CoverCall) (t : List ℕ) (c : Parts) (u : List ℕ) → command ≡ Cover call → IsTold d files.Circuit call.circuit t → SpellsCircuit t c
     → IsTold d files.Signals call.signals u → ((sig : List ℕ) → ¬ SpellsSignals c u sig) → Answers err status stops.BadSignals
+
+-- what is asked of a circuit and signals that are accepted is too much
+abbrev pub TooMuchComes : Command → DeskSeen → SinkSeen → Status → Type 0
+TooMuchComes command d err status =
+    (call : CoverCall) (t : List ℕ) (c : Parts) (u sig : List ℕ) (m : Measure) → command ≡ Cover call → IsTold d files.Circuit call.circuit t → SpellsCircuit t c
+    → IsTold d files.Signals call.signals u → SpellsSignals c u sig → IsTooMuch call.options c m → Answers err status (stops.TooLarge m)
 
 -- a circuit that is told and too long is refused so
 abbrev pub LongCircuitComes : Command → DeskSeen → SinkSeen → Status → Type 0

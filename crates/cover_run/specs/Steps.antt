@@ -1,5 +1,7 @@
 -- Causes of the steps of a command.
 use Rattle.std.specs.Prelude.{◌≡◌, ◌≢◌, ◌⊎◌, ℕ, List, Some}
+use Rattle.aig_model.specs.declared.parts.Parts.{Parts}
+use Rattle.report_text.specs.declared.options.Options.{Options}
 use Rattle.cnf_base.specs.Dimacs.{IsFirstFault as IsFirstInFormula}
 use Rattle.cnf_base.specs.Meaning.{CnfFormula}
 use Rattle.cnf_base.specs.declared.fault.DimacsKind.TheVariants as dimacs
@@ -11,6 +13,7 @@ use Rattle.cover_run.specs.declared.stop.Measure.TheVariants as measures
 use Rattle.cover_run.specs.declared.stop.Refusal.TheVariants as refusals
 use Rattle.cover_run.specs.declared.stop.Stop.{Stop}
 use Rattle.cover_run.specs.declared.stop.Stop.TheVariants as stops
+use Rattle.cover_run.specs.Covering.{IsTooMuch}
 use Rattle.cover_run.specs.Files.{IsRead, IsLeft, IsTooLong}
 use Rattle.cover_run.specs.Seen.{DeskSeen, HasFaulted}
 
@@ -24,6 +27,11 @@ PartCause d file name stop = ⊥
 -- no file was started, or this one was and was given within its limit
 abbrev pub IsLeftOrRead : DeskSeen → File → List ℕ → Type 0
 IsLeftOrRead d file name = IsLeft d ⊎ IsRead d file name
+
+-- why a run isn't begun
+abbrev pub RoomCause : Options → Parts → Stop → Type 0
+RoomCause o c (stops.TooLarge m) = IsTooMuch o c m
+RoomCause o c stop = ⊥
 
 -- why the bytes of a formula, and those of a proof, are refused
 abbrev pub FormulaCause : List ℕ → Stop → Type 0

@@ -51,6 +51,8 @@ file_word files.Proof = codes "proof"
 
 abbrev pub measure_word : Measure → List ℕ
 measure_word measures.Formula = codes "formula"
+measure_word measures.Frames = codes "frames"
+measure_word measures.Walk = codes "walk"
 
 -- the names of the kinds of fault
 abbrev pub dimacs_word : DimacsKind → List ℕ

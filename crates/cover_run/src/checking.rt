@@ -22,6 +22,7 @@ use lrat_check::{ProofFault, check_proof};
 use lrat_text::{LratFault, Proof, read_lrat};
 use run_io::Desk;
 use std::alloc::Global;
+use text_words::lines_at_most_bytes;
 
 fn formula_stop(line: u32, kind: DimacsKind) -> Stop
     ensures { result ≡ formula_stop line kind }
@@ -38,6 +39,7 @@ fn formula_of(alloc: Global, bytes: &[u8]) -> Result<Formula, Stop>
     ensures formula { IfOk result (SpellsFormula bytes.now) }
     ensures cause { IfErr result (FormulaCause bytes.now) }
 {
+    lines_at_most_bytes(bytes);
     match read_dimacs(alloc, bytes) {
         Ok(formula) => Ok(formula),
         Err(DimacsFault::At { line, kind }) => Err(formula_stop(line, kind)),
@@ -50,6 +52,7 @@ fn proof_of(alloc: Global, bytes: &[u8]) -> Result<Proof, Stop>
     ensures proof { IfOk result (SpellsProof bytes.now) }
     ensures cause { IfErr result (ProofCause bytes.now) }
 {
+    lines_at_most_bytes(bytes);
     match read_lrat(alloc, bytes) {
         Ok(proof) => Ok(proof),
         Err(LratFault::At { line, kind }) => Err(Stop::Refused(Refusal::Proof { line, kind })),

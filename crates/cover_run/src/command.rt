@@ -1,23 +1,12 @@
 //! The words on the command line.
 
-ghost use Rattle.std.specs.Prelude.{◌≡◌};
-ghost use Rattle.cover_run.specs.Words.{meaning, cover_of, lrat_of, texts, is_file_name};
+ghost use Rattle.std.specs.Prelude.{◌≡◌, Some};
+ghost use Rattle.cover_run.specs.Settings.{given_by, nothing};
+ghost use Rattle.cover_run.specs.Words.{meaning, alone, cover_of, cover_with, lrat_of, texts, is_file_name};
 ghost use Rattle.cover_run.specs.Orders.{command_of};
 
+use crate::settings::{given_by, options_of};
 use report_text::Options;
-
-const DEFAULTS: Options = Options {
-    depth: 0,
-    batches: 0,
-    length: 1000,
-    stall: 100,
-    hop: 4,
-    seed: 1,
-    lemmas: 20_000,
-    strength: 0,
-    rounds: 0,
-    proofs: false,
-};
 
 /// The files and options of `cover`.
 #[derive(Clone, Copy, Debug)]
@@ -38,6 +27,8 @@ pub(crate) struct Lrat<'a> {
 #[derive(Clone, Copy, Debug)]
 pub(crate) enum Order<'a> {
     Usage,
+    Help,
+    Version,
     Cover(Cover<'a>),
     Lrat(Lrat<'a>),
 }
@@ -51,16 +42,25 @@ fn is_file_name(word: &[u8]) -> bool
     }
 }
 
+fn cover_with<'a>(circuit: &'a [u8], signals: &'a [u8], words: &[Vec<u8>]) -> Order<'a>
+    ensures { command_of result ≡ cover_with circuit.now signals.now (given_by (Some nothing) (texts words.now)) }
+{
+    match given_by(words) {
+        None => Order::Usage,
+        Some(given) => Order::Cover(Cover {
+            circuit,
+            signals,
+            options: options_of(&given),
+        }),
+    }
+}
+
 fn cover_of(words: &[Vec<u8>]) -> Order<'_>
     ensures { command_of result ≡ cover_of (texts words.now) }
 {
-    if let [circuit, signals] = words {
+    if let [circuit, signals, rest @ ..] = words {
         if is_file_name(circuit) && is_file_name(signals) {
-            return Order::Cover(Cover {
-                circuit: circuit.as_slice(),
-                signals: signals.as_slice(),
-                options: DEFAULTS,
-            });
+            return cover_with(circuit, signals, rest);
         }
     }
     Order::Usage
@@ -80,6 +80,17 @@ fn lrat_of(words: &[Vec<u8>]) -> Order<'_>
     Order::Usage
 }
 
+fn alone(command: &[u8], words: &[Vec<u8>]) -> Order<'static>
+    ensures { command_of result ≡ alone command.now (texts words.now) }
+{
+    match words {
+        [] if command == b"--help".as_slice() => Order::Help,
+        [] if command == b"--version".as_slice() => Order::Version,
+        [] => Order::Usage,
+        [_, ..] => Order::Usage,
+    }
+}
+
 pub(crate) fn order_of(words: &[Vec<u8>]) -> Order<'_>
     ensures { command_of result ≡ meaning (texts words.now) }
 {
@@ -91,6 +102,6 @@ pub(crate) fn order_of(words: &[Vec<u8>]) -> Order<'_>
     } else if command.as_slice() == b"lrat".as_slice() {
         lrat_of(rest)
     } else {
-        Order::Usage
+        alone(command, rest)
     }
 }

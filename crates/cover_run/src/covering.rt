@@ -2,10 +2,11 @@
 
 ghost use Rattle.std.specs.Prelude.{◌≡◌, ℕ, List, IfOk, IfErr, OnOk, nat_eq};
 ghost use Rattle.cover_run.specs.Answer.{EarlyCause};
-ghost use Rattle.cover_run.specs.Covering.{HasCircuit, HasSignals, IsCoverOutput};
+ghost use Rattle.cover_run.specs.Covering.{HasCircuit, HasSignals, HasRoom, IsCoverOutput};
 ghost use Rattle.cover_run.specs.Files.{IsWithin};
 ghost use Rattle.cover_run.specs.Orders.{cover_call};
 ghost use Rattle.cover_run.specs.Report.{IsReport};
+ghost use Rattle.cover_run.specs.Steps.{RoomCause};
 ghost use Rattle.cover_run.specs.Stops.{UnlessTooLong};
 ghost use Rattle.cover_run.specs.Words.{Cover as CoverCommand};
 
@@ -14,7 +15,7 @@ use crate::composing::compose;
 use crate::first_forms::{FormFault, read_circuit, read_signals};
 use crate::output::Output;
 use crate::part::read_part;
-use crate::stop::{File, Stop};
+use crate::stop::{File, Measure, Stop};
 use crate::walk::zero_walk;
 use aig_model::{Circuit, Signals};
 use ketch_base::OutOfMemory;
@@ -55,6 +56,22 @@ fn read_both<D: Desk>(
     }
 }
 
+/// Whether the searches and walks that are asked for are within their limits.
+fn has_room(circuit: &Circuit, options: &Options) -> Result<(), Stop>
+    ensures room { OnOk result (HasRoom options.now circuit.now) }
+    ensures cause { IfErr result (RoomCause options.now circuit.now) }
+{
+    let steps = u64::from(options.depth.max(options.hop)) + 1;
+    if steps.saturating_mul(u64::from(circuit.top()) + 1) > 4_000_000 {
+        return Err(Stop::TooLarge(Measure::Frames));
+    }
+    let width = (circuit.inputs().len() as u64).saturating_add(1);
+    if width.saturating_mul(options.length.into()) > 2_000_000 {
+        return Err(Stop::TooLarge(Measure::Walk));
+    }
+    Ok(())
+}
+
 /// The report of a circuit and its signals.
 fn report_of(
     alloc: Global,
@@ -88,6 +105,7 @@ pub(crate) fn cover<D: Desk>(alloc: Global, desk: &mut D, call: &Cover<'_>) -> R
         (record { text = D.text desk.old; faults = D.faults desk.old; faults_after = D.faults desk.new; started = D.started desk.old; started_after = D.started desk.new; given = D.given desk.old; given_after = D.given desk.new }))) }
 {
     let (circuit, signals) = read_both(alloc, desk, call)?;
+    has_room(&circuit, &call.options)?;
     let output = report_of(alloc, &circuit, &signals, &call.options)?;
     Ok(output)
 }

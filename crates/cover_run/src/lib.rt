@@ -1,6 +1,7 @@
 //! Runs the commands over files, and writes the report of what a circuit can show.
 #![tactic(auto)]
 
+mod about;
 mod checking;
 mod command;
 mod composing;
@@ -12,6 +13,7 @@ mod line;
 mod output;
 mod part;
 mod running;
+mod settings;
 mod stop;
 mod walk;
 

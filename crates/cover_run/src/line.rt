@@ -31,6 +31,8 @@ fn measure_word(measure: Measure) -> &'static str
 {
     match measure {
         Measure::Formula => "formula",
+        Measure::Frames => "frames",
+        Measure::Walk => "walk",
     }
 }
 

@@ -1,14 +1,15 @@
 //! The top call.
 
-ghost use Rattle.std.specs.Prelude.{◌≡◌, ◌↔◌, ℕ, List, IfOk, IfErr, OnOk, false};
+ghost use Rattle.std.specs.Prelude.{◌≡◌, ◌↔◌, ℕ, List, IfOk, IfErr, OnOk, true, false};
 ghost use Rattle.cover_run.specs.Answer.{EarlyCause, IsOutput, IsAnswer, IsStopped, IsWhole};
 ghost use Rattle.cover_run.specs.Files.{IsWithin};
 ghost use Rattle.cover_run.specs.Orders.{command_of};
-ghost use Rattle.cover_run.specs.Promises.{Headline, Completeness, AcceptedCause, AcceptedComes, HasEnded, IsEarly, ReadFaultCause, BadCircuitCause, BadCircuitComes, BadSignalsCause, BadSignalsComes, LimitCause, WithinLimits, LongCircuitComes, LongSignalsComes, LongFormulaComes, LongProofComes, RefusedCause, BadFormulaComes, BadProofComes, BadStepComes, PrefixAfterFault, SaysLine};
+ghost use Rattle.cover_run.specs.Promises.{Headline, Completeness, AcceptedCause, AcceptedComes, PrintedCause, PrintedComes, HasEnded, IsEarly, ReadFaultCause, BadCircuitCause, BadCircuitComes, BadSignalsCause, BadSignalsComes, LimitCause, WithinLimits, TooMuchComes, LongCircuitComes, LongSignalsComes, LongFormulaComes, LongProofComes, RefusedCause, BadFormulaComes, BadProofComes, BadStepComes, PrefixAfterFault, SaysLine};
 ghost use Rattle.cover_run.specs.Seen.{Failed, TookWhatItCould};
 ghost use Rattle.cover_run.specs.Stops.{UnlessTooLong, is_late};
 ghost use Rattle.cover_run.specs.Words.{meaning, texts, Usage};
 
+use crate::about::{help_text, version_text};
 use crate::checking::check;
 use crate::command::{Order, order_of};
 use crate::covering::cover;
@@ -20,6 +21,21 @@ use run_io::{Desk, Sink, write_all};
 use std::alloc::Global;
 use std::marker::Sync;
 use std::thread::Threads;
+
+/// A fixed text as a command's output.
+fn printed(alloc: Global, text: &str) -> Result<Output, Stop>
+    ensures bytes { IfOk result (λ output. output.bytes.items ≡ text.now) }
+    ensures settled { IfOk result (λ output. output.settled ≡ true) }
+    ensures cause { IfErr result (λ stop. stop ≡ Stop.OutOfMemory) }
+{
+    match Vec::from_slice(alloc, text.as_bytes()) {
+        Ok(bytes) => Ok(Output {
+            bytes,
+            settled: true,
+        }),
+        Err(_) => Err(Stop::OutOfMemory),
+    }
+}
 
 /// What the words ask to write. Nothing is written yet.
 fn output_of<D: Desk>(alloc: Global, order: &Order<'_>, desk: &mut D) -> Result<Output, Stop>
@@ -37,6 +53,8 @@ fn output_of<D: Desk>(alloc: Global, order: &Order<'_>, desk: &mut D) -> Result<
 {
     match order {
         Order::Usage => Err(Stop::Usage),
+        Order::Help => printed(alloc, help_text()),
+        Order::Version => printed(alloc, version_text()),
         Order::Cover(call) => cover(alloc, desk, call),
         Order::Lrat(call) => check(alloc, desk, call),
     }
@@ -129,6 +147,10 @@ pub fn run<R: Threads + Sync, D: Desk, O: Sink, E: Sink, G: Gate>(
     ensures accepted_comes { AcceptedComes (meaning (texts words.now))
         (record { text = D.text desk.old; faults = D.faults desk.old; faults_after = D.faults desk.new; started = D.started desk.old; started_after = D.started desk.new; given = D.given desk.old; given_after = D.given desk.new })
         (record { taken = O.taken out.old; taken_after = O.taken out.new; faults = O.faults out.old; faults_after = O.faults out.new; idle = O.idle out.old; idle_after = O.idle out.new }) result }
+    ensures printed { PrintedCause (meaning (texts words.now))
+        (record { taken = O.taken out.old; taken_after = O.taken out.new; faults = O.faults out.old; faults_after = O.faults out.new; idle = O.idle out.old; idle_after = O.idle out.new }) result }
+    ensures printed_comes { PrintedComes (meaning (texts words.now))
+        (record { taken = O.taken out.old; taken_after = O.taken out.new; faults = O.faults out.old; faults_after = O.faults out.new; idle = O.idle out.old; idle_after = O.idle out.new }) result }
 
     ensures usage { (result ≡ Status.Usage) ↔ (meaning (texts words.now) ≡ Usage) }
     ensures not_called { result ≡ Status.Usage → desk.new ≡ desk.old }
@@ -150,6 +172,9 @@ pub fn run<R: Threads + Sync, D: Desk, O: Sink, E: Sink, G: Gate>(
         (record { taken = E.taken err.old; taken_after = E.taken err.new; faults = E.faults err.old; faults_after = E.faults err.new; idle = E.idle err.old; idle_after = E.idle err.new }) result }
     ensures within_limits { WithinLimits (meaning (texts words.now))
         (record { text = D.text desk.old; faults = D.faults desk.old; faults_after = D.faults desk.new; started = D.started desk.old; started_after = D.started desk.new; given = D.given desk.old; given_after = D.given desk.new }) result }
+    ensures too_much_comes { TooMuchComes (meaning (texts words.now))
+        (record { text = D.text desk.old; faults = D.faults desk.old; faults_after = D.faults desk.new; started = D.started desk.old; started_after = D.started desk.new; given = D.given desk.old; given_after = D.given desk.new })
+        (record { taken = E.taken err.old; taken_after = E.taken err.new; faults = E.faults err.old; faults_after = E.faults err.new; idle = E.idle err.old; idle_after = E.idle err.new }) result }
     ensures long_circuit_comes { LongCircuitComes (meaning (texts words.now))
         (record { text = D.text desk.old; faults = D.faults desk.old; faults_after = D.faults desk.new; started = D.started desk.old; started_after = D.started desk.new; given = D.given desk.old; given_after = D.given desk.new })
         (record { taken = E.taken err.old; taken_after = E.taken err.new; faults = E.faults err.old; faults_after = E.faults err.new; idle = E.idle err.old; idle_after = E.idle err.new }) result }

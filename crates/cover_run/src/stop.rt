@@ -23,6 +23,10 @@ pub enum File {
 pub enum Measure {
     /// The numbers of variables and clauses that a formula's header states.
     Formula,
+    /// The truth values of the longest search's frames.
+    Frames,
+    /// The truth values of a walk's inputs and its steps.
+    Walk,
 }
 
 /// What is wrong first with a proof that isn't accepted. Lines and steps count from 1.

@@ -11,3 +11,5 @@ mod devices;
 mod lrat_rows;
 #[cfg(test)]
 mod rows;
+#[cfg(test)]
+mod words;

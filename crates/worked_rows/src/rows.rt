@@ -94,31 +94,3 @@ fn refusals(rt: HostRuntime) -> Result<(), Fail> {
     }
     Ok(())
 }
-
-/// The desk isn't called: its first call would fail, and that would be another status.
-#[test]
-fn usage(rt: HostRuntime) -> Result<(), Fail> {
-    let rows: [&[&[u8]]; 9] = [
-        &[],
-        &[b"cover"],
-        &[b"cover", b"a"],
-        &[b"cover", b"a", b"-b"],
-        &[b"cover", b"a", b"b", b"c"],
-        &[b"hover", b"a", b"b"],
-        &[b"lrat", b"a"],
-        &[b"lrat", b"", b"b"],
-        &[b"lrat", b"a", b"b", b"c"],
-    ];
-    for words in rows {
-        let mut setting = Setting::new(words, TOGGLE, b"l0\n");
-        setting.desk_fails = Some(1);
-        let outcome = setting.run(&rt, rt.alloc())?;
-        assert_eq!(rt; outcome.status, Status::Usage);
-        assert!(rt; outcome.out.is_empty());
-        assert!(rt;
-            outcome.err.as_slice()
-                == b"ketch: usage: ketch cover|check|goals|replay|lrat|make ..\n".as_slice()
-        );
-    }
-    Ok(())
-}

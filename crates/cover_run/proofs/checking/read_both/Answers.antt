@@ -4,7 +4,7 @@ use Rattle.cover_run.specs.declared.stop.File.TheVariants as files
 use Rattle.cover_run.specs.Orders.{lrat_call}
 use Rattle.cover_run.specs.Seen.{DeskSeen}
 use Rattle.cover_run.specs.Words.{Lrat}
-use Rattle.cover_run.proofs.Reading.{second_within, unless-of, unless-map, formula_refused}
+use Rattle.cover_run.proofs.Reading.{file_within, second_within, unless-of, unless-map, formula_refused}
 use Rattle.cover_run.proofs.checking.read_both.Goals as goal
 
 pub returns-in_err-formula-clause-cause : goal.returns-in_err-formula-clause-cause
@@ -21,6 +21,11 @@ returns-in_err-formula-clause-cause g c =
     } in
     rw (p.1, p.2) (formula_refused (lrat_call c.args.call.now) seen c.in_ok-bytes.bytes.items c.deref.result.now c.in_err-formula.field-0.0 c.deref.ensures.value c.in_ok-bytes.ensures.short
     c.in_ok-bytes.ensures.whole c.in_err-formula.ensures.cause)
+
+pub returns-in_err-formula-clause-within : goal.returns-in_err-formula-clause-within
+returns-in_err-formula-clause-within g c =
+    let p = err_from_is_err_and c.from_residual-in_err-formula.result c.from_residual-in_err-formula.ensures.1 in
+    rw (p.1, p.2) (unless-of _ _ (file_within (Lrat (lrat_call c.args.call.now)) _ files.Formula _ refl c.in_ok-bytes.ensures.read))
 
 pub returns-in_err-bytes-2-clause-within : goal.returns-in_err-bytes-2-clause-within
 returns-in_err-bytes-2-clause-within g c =

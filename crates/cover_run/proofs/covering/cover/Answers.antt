@@ -6,6 +6,7 @@ returns-clause-output g c = record {
   signals = c.in_ok-circuit.signals.lits;
   has_circuit = c.in_ok-circuit.ensures.circuit;
   has_signals = c.in_ok-circuit.ensures.signals;
+  room = c.in_ok-has_room.ensures.room;
   is_report = c.in_ok-output.ensures.0;
   settled_is = c.in_ok-output.ensures.1;
 }

@@ -71,3 +71,12 @@ returns-clause-prefix_after_fault g c = promised.prefix_after_fault _ _ _ _ _ c.
 
 pub returns-clause-line : goal.returns-clause-line
 returns-clause-line g c = promised.says_line _ _ _ _ _ c.answer.ensures.answer
+
+pub returns-clause-printed : goal.returns-clause-printed
+returns-clause-printed g c = promised.printed _ _ _ _ _ c.answer.ensures.answer
+
+pub returns-clause-printed_comes : goal.returns-clause-printed_comes
+returns-clause-printed_comes g c = promised.printed_comes _ _ _ _ _ c.answer.ensures.answer
+
+pub returns-clause-too_much_comes : goal.returns-clause-too_much_comes
+returns-clause-too_much_comes g c = cover.too_much_comes _ _ _ _ _ c.answer.ensures.answer

@@ -1,0 +1,52 @@
+//! What ketch says of itself.
+
+ghost use Rattle.std.specs.Prelude.{◌≡◌};
+ghost use Rattle.cover_run.specs.About.{help_text, version_text};
+
+const VERSION: &str = "ketch 0.1.0\n";
+
+const HELP: &str = "Usage: ketch COMMAND ..
+
+  cover CIRCUIT SIGNALS [OPTIONS]  find out which combinations of signals a circuit can show
+  lrat FORMULA PROOF               check an LRAT proof that a DIMACS formula has no model
+  --help                           print this text
+  --version                        print the version
+
+Options of cover, in any order, each with a number:
+
+  --depth     0                          steps of the search from reset [0]
+  --batches   0                          batches of random walks [0]
+  --length    1..100000                  steps of a walk [1000]
+  --stall     1..100000                  steps after which a walk that finds nothing ends [100]
+  --hop       0..50                      steps of a search from a simulated state [4]
+  --seed      0..18446744073709551615    start of the random numbers [1]
+  --lemmas    1..1000000                 lemmas that a query may spend [20000]
+  --strength  0                          literals of an inductive clause [0]
+  --rounds    0                          rounds after the first [0]
+  --workers   1..8                       threads [4]
+
+Statuses:
+
+  0  every goal is settled, or the proof is accepted
+  1  some goal is open
+  2  the words mean nothing
+  3  a file cannot be read
+  4  the circuit is not accepted
+  5  the signals are not accepted
+  6  a file or a number is past its limit
+  7  the output cannot be written
+  8  out of memory
+  9  the proof is not accepted
+";
+
+pub(crate) fn help_text() -> &'static str
+    ensures { result.now ≡ help_text }
+{
+    HELP
+}
+
+pub(crate) fn version_text() -> &'static str
+    ensures { result.now ≡ version_text }
+{
+    VERSION
+}
