@@ -110,5 +110,6 @@ line-put text line rest old new name r is put =
 pub all-asked : {S : Type 0} (text : List ℕ) (table : Table S) → IsAskedUpTo text [] table → AreAsked (lines text) table
 all-asked text table r = subst (λ (ls : List (List ℕ)). AreAsked ls table) (sym (r.parts ∙ append-nil r.done)) r.asked
 
+-- the same of an equal owner
 pub put-rewritten : {S : Type 0} (old new : Table S) (key : Bor (List ℕ)) (a b : Owner) → Puts old new key (Some a) → a ≡ b → Puts old new key (Some b)
 put-rewritten old new key a b put same = subst (λ (o : Owner). Puts old new key (Some o)) same put

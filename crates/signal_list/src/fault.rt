@@ -21,13 +21,13 @@ pub enum SigKind {
     Repeated,
     /// The signal is the eleventh.
     TooMany,
-    /// No line is a signal; at line 0.
+    /// No line is a signal.
     Empty,
 }
 
 #[derive(Clone, Copy, Debug, PartialEq, Eq, Error)]
 pub enum SigFault {
-    /// The first fault, at its line; lines count from 1.
+    /// The first fault, at its line; lines count from 1, and `Empty` is at 0.
     #[error("line {line}: {kind:?}")]
     At { line: u32, kind: SigKind },
     #[error("out of memory")]
