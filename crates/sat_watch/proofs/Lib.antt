@@ -3,3 +3,4 @@ pub mod Resting
 pub mod Spreading
 pub mod ListsGrow
 pub mod Seeing
+pub mod Readiness

@@ -133,7 +133,7 @@ follow_above clauses level k true_lits (p ∷ more) h lt =
     rw (lt-leb p.level k above) (follow_above clauses level k (true_lits ++ p.lit ∷ []) more h.1 lt)
 
 -- below the present level nothing has changed
-upto_spread : (clauses : List (List ℤ)) (old new : TrailState) (k : ℕ) → Spreads clauses old new → k < old.level → upto k new.puts ≡ upto k old.puts
+pub upto_spread : (clauses : List (List ℤ)) (old new : TrailState) (k : ℕ) → Spreads clauses old new → k < old.level → upto k new.puts ≡ upto k old.puts
 upto_spread clauses old new k s lt =
     ap (upto k) s.puts
     ∙ filter-append (λ (p : Put). leb p.level k) old.puts s.more

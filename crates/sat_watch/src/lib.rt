@@ -8,6 +8,8 @@ mod mark;
 mod scan;
 mod seen;
 mod spread;
+#[cfg(test)]
+mod tests;
 
 pub use book::ClauseBook;
 pub use mark::Mark;

@@ -1,6 +1,5 @@
-use Rattle.std.proofs.Common.{◌≡◌, ◌+◌, ◌<◌, ◌≤◌, ℕ, ℤ, pos, nat_abs, List, length, get_or, map, take, ap, sym, ◌∙◌, subst, arith}
+use Rattle.std.proofs.Common.{◌<◌, ℤ, nat_abs, length, get_or, take, ap, sym, ◌∙◌, subst, arith}
 use Rattle.std.proofs.lemmas.List.{length-map, length-take, get_or-take}
-use Rattle.std.specs.List.{slice_index}
 use Rattle.sat_trail.specs.Trail.{TrailState, levels}
 use Rattle.sat_trail.specs.Kept.{put_from}
 use Rattle.sat_trail.proofs.Keeping.{literal_in_range}
