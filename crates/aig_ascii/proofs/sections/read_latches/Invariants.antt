@@ -1,0 +1,18 @@
+use Rattle.std.proofs.Common.{◌≡◌, ◌++◌, map}
+use Rattle.aig_ascii.specs.Text.{lines_of, after_lines}
+use Rattle.aig_ascii.specs.Sections.{latch, section_demands, section_uses, latch_of}
+use Rattle.aig_ascii.specs.Drafts.{definers_of, use_of, StandFor}
+use Rattle.aig_ascii.specs.Reading.{first_unmet}
+use Rattle.aig_ascii.proofs.sections.read_latches.Given as goal
+
+abbrev pub invariant-loop-left : goal.invariant-loop-left
+invariant-loop-left l = record {
+  demands : first_unmet (section_demands latch l.left l.draft.top (definers_of l.draft) l.cursor) ≡ first_unmet (section_demands latch l.count l.fn.draft.top (definers_of l.fn.draft) l.fn.cursor);
+  draft : l.draft ≡ record l.fn.draft { latches = l.draft.latches; pending = l.draft.pending };
+  latches : l.draft.latches ++ map latch_of (lines_of l.left l.cursor) ≡ l.fn.draft.latches ++ map latch_of (lines_of l.count l.fn.cursor);
+  uses : StandFor (definers_of l.draft) (l.draft.pending ++ map use_of (section_uses latch l.left l.cursor)) (l.fn.draft.pending ++ map use_of (section_uses latch l.count l.fn.cursor));
+  next : after_lines l.left l.cursor ≡ after_lines l.count l.fn.cursor;
+}
+
+abbrev pub decreases-loop-left : goal.decreases-loop-left
+decreases-loop-left l = l.left

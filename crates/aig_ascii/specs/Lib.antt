@@ -1,0 +1,16 @@
+pub mod Aag
+pub mod Demands
+pub mod Drafts
+pub mod Fields
+pub mod GateOrder
+pub mod Header
+pub mod OrderLaws
+pub mod PlaceOrder
+pub mod ReadSections
+pub mod Reading
+pub mod Sections
+pub mod SortedGates
+pub mod SymbolTables
+pub mod Symbols
+pub mod Text
+pub mod UserLists

@@ -1,0 +1,144 @@
+//! The fields of a line, read one after another.
+
+ghost use Rattle.std.specs.Prelude.{◌≡◌, ◌≤◌, min, [], ◌∷◌, map, get_or, OnOk, IfOk};
+ghost use Rattle.aig_model.specs.WellFormed.{limit};
+ghost use Rattle.aig_ascii.specs.Text.{fields, next_line};
+ghost use Rattle.aig_ascii.specs.Text as text;
+ghost use Rattle.aig_ascii.specs.Fields.{PassesField, want_demands, none_demands, wanted, optional};
+ghost use Rattle.aig_ascii.specs.Header as header;
+ghost use Rattle.aig_ascii.specs.Sections as sections;
+ghost use Rattle.aig_ascii.specs.Reading.{first_unmet, Says};
+
+use crate::cursor::Cursor;
+use crate::fault::{AagFault, AagKind};
+use aig_model::{Lit, Reset};
+
+const MOST: u64 = 3_999_999;
+
+/// The number of a field that must stand here, or the greatest u64 in place of a greater one.
+pub fn number(cursor: &mut Cursor<'_>) -> Result<u64, AagFault>
+    ensures demands { Says result (first_unmet (want_demands cursor.old (wanted []) (fields cursor.old))) }
+    ensures value { IfOk result (λ n. n ≡ min (get_or (map text.number (fields cursor.old)) 0 0) u64.MAX) }
+    ensures passes { OnOk result (PassesField cursor.old cursor.new) }
+{
+    if !cursor.has_field() {
+        return Err(cursor.missing());
+    }
+    let at = cursor.at();
+    match cursor.number() {
+        Some(value) => Ok(value),
+        None => Err(AagFault::At {
+            at,
+            kind: AagKind::Number,
+        }),
+    }
+}
+
+/// The same of a number of the header.
+pub fn size(cursor: &mut Cursor<'_>) -> Result<u32, AagFault>
+    ensures demands { Says result (first_unmet (want_demands cursor.old (wanted (header.within_limit ∷ [])) (fields cursor.old))) }
+    ensures value { IfOk result (λ n. n ≡ get_or (map text.number (fields cursor.old)) 0 0) }
+    ensures few { IfOk result (λ n. n ≤ limit) }
+    ensures passes { OnOk result (PassesField cursor.old cursor.new) }
+{
+    let at = cursor.at();
+    let value = number(cursor)?;
+    if value > MOST {
+        return Err(AagFault::At {
+            at,
+            kind: AagKind::Limit,
+        });
+    }
+    Ok(value as u32)
+}
+
+/// The same where the field may be missing, and is 0 then.
+pub fn optional_size(cursor: &mut Cursor<'_>) -> Result<u32, AagFault>
+    ensures demands { Says result (first_unmet (want_demands cursor.old (optional (header.within_limit ∷ [])) (fields cursor.old))) }
+    ensures value { IfOk result (λ n. n ≡ get_or (map text.number (fields cursor.old)) 0 0) }
+    ensures few { IfOk result (λ n. n ≤ limit) }
+    ensures passes { OnOk result (PassesField cursor.old cursor.new) }
+{
+    if cursor.has_field() {
+        size(cursor)
+    } else {
+        Ok(0)
+    }
+}
+
+/// Passes a count of liveness properties, which is 0 or missing.
+pub fn no_liveness(cursor: &mut Cursor<'_>) -> Result<(), AagFault>
+    ensures demands { Says result (first_unmet (want_demands cursor.old
+        (optional (header.within_limit ∷ header.no_liveness ∷ [])) (fields cursor.old))) }
+    ensures passes { OnOk result (PassesField cursor.old cursor.new) }
+{
+    let at = cursor.at();
+    let count = optional_size(cursor)?;
+    if count != 0 {
+        return Err(AagFault::At {
+            at,
+            kind: AagKind::Liveness,
+        });
+    }
+    Ok(())
+}
+
+/// The literal of a field that must stand here.
+pub fn literal(cursor: &mut Cursor<'_>, top: u32) -> Result<Lit, AagFault>
+    requires { top ≤ limit }
+    ensures demands { Says result (first_unmet (want_demands cursor.old (sections.literal top) (fields cursor.old))) }
+    ensures value { IfOk result (λ lit. lit ≡ get_or (map text.number (fields cursor.old)) 0 0) }
+    ensures passes { OnOk result (PassesField cursor.old cursor.new) }
+{
+    let at = cursor.at();
+    let value = number(cursor)?;
+    if value > 2 * u64::from(top) + 1 {
+        return Err(AagFault::At {
+            at,
+            kind: AagKind::Range,
+        });
+    }
+    Ok(Lit::new(value as u32))
+}
+
+/// The reset of a latch, which is 0 where it is missing.
+pub fn reset(cursor: &mut Cursor<'_>, lit: Lit) -> Result<Reset, AagFault>
+    ensures demands { Says result (first_unmet (want_demands cursor.old (optional (sections.is_reset lit ∷ [])) (fields cursor.old))) }
+    ensures value { IfOk result (λ reset. reset ≡ sections.reset_of (get_or (map text.number (fields cursor.old)) 0 0)) }
+    ensures passes { OnOk result (PassesField cursor.old cursor.new) }
+{
+    if !cursor.has_field() {
+        return Ok(Reset::Zero);
+    }
+    let at = cursor.at();
+    let value = number(cursor)?;
+    if value == 0 {
+        return Ok(Reset::Zero);
+    }
+    if value == 1 {
+        return Ok(Reset::One);
+    }
+    if value == u64::from(lit.value()) {
+        return Ok(Reset::Free);
+    }
+    Err(AagFault::At {
+        at,
+        kind: AagKind::Reset,
+    })
+}
+
+/// Goes on to the next line, where no field is left of this one.
+pub fn end_line(cursor: &mut Cursor<'_>) -> Result<(), AagFault>
+    ensures demands { Says result (first_unmet (none_demands (fields cursor.old))) }
+    ensures next { OnOk result (cursor.new ≡ next_line cursor.old) }
+{
+    if cursor.has_field() {
+        let at = cursor.at();
+        return Err(AagFault::At {
+            at,
+            kind: AagKind::Number,
+        });
+    }
+    cursor.next_line();
+    Ok(())
+}

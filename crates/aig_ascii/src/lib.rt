@@ -1,0 +1,23 @@
+//! The ASCII format of AIGER 1.9.
+#![tactic(auto)]
+
+mod bytes;
+mod cursor;
+mod draft;
+mod fault;
+mod fields;
+mod header;
+mod law;
+mod order;
+mod reading;
+mod sections;
+mod symbols;
+#[cfg(test)]
+mod tests;
+
+pub use fault::{AagFault, AagKind};
+pub use law::each_text_is_read_one_way;
+pub use order::fault::OrderFault;
+pub use order::laws::{one_cycle, one_gate_order, order_or_cycle, ordered_circuit};
+pub use order::order_gates;
+pub use reading::read_aag;
