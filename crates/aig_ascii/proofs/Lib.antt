@@ -8,6 +8,7 @@ pub mod Gates
 pub mod Heads
 pub mod Lines
 pub mod Linked
+pub mod NameRanks
 pub mod OrderedGates
 pub mod PlacedGates
 pub mod Placing
@@ -19,9 +20,15 @@ pub mod RightSections
 pub mod RightSymbols
 pub mod Runs
 pub mod Slots
+pub mod SpelledLines
+pub mod SpelledBody
+pub mod SpelledHeader
+pub mod SpelledSections
+pub mod SpelledSymbols
 pub mod SymbolLines
 pub mod Times
 pub mod Unmet
 pub mod Uses
 pub mod Wants
 pub mod WholeText
+pub mod WrittenBack

@@ -1,13 +1,16 @@
 pub mod Aag
+pub mod CircuitText
 pub mod Demands
 pub mod Drafts
 pub mod Fields
 pub mod GateOrder
 pub mod Header
+pub mod NameOrder
 pub mod OrderLaws
 pub mod PlaceOrder
 pub mod ReadSections
 pub mod Reading
+pub mod RoundTrip
 pub mod Sections
 pub mod SortedGates
 pub mod SymbolTables

@@ -14,6 +14,7 @@ mod sections;
 mod symbols;
 #[cfg(test)]
 mod tests;
+mod writing;
 
 pub use fault::{AagFault, AagKind};
 pub use law::each_text_is_read_one_way;
@@ -21,3 +22,4 @@ pub use order::fault::OrderFault;
 pub use order::laws::{one_cycle, one_gate_order, order_or_cycle, ordered_circuit};
 pub use order::order_gates;
 pub use reading::read_aag;
+pub use writing::write_aag;
