@@ -4,9 +4,11 @@
 The program is crates/ketch/out/ketch, as `rt ci` or `rt run` leaves it; the C checker below is
 compiled with `cc -O2`. Three families are generated: a chain of implications with a lemma every
 hundred, chains of clauses of ten literals with long hints, and a formula of ten million clauses
-with a proof of one step. Where `cadical` is on PATH, its own proof of a pigeonhole formula is
-checked too. What is missing is skipped. An argument scales the sizes down: `lrat_check.py 0.1`.
+with a proof of one step. Where `cadical` is on PATH, its proof of a pigeonhole formula is checked
+too, with hints that a forward pass of unit propagation finds here. What is missing is skipped. An
+argument scales the sizes down: `lrat_check.py 0.1`.
 """
+import json
 import os
 import shutil
 import subprocess
@@ -172,23 +174,105 @@ def large(scale):
     return n, clauses, [f"{count + 1} 0 {count - 1} {count} 0"], 2
 
 
-def pigeons(folder, holes):
-    """A pigeonhole formula and cadical's own proof of it."""
-    name = lambda pigeon, hole: pigeon * holes + hole + 1
-    clauses = [" ".join(str(name(p, h)) for h in range(holes)) + " 0" for p in range(holes + 1)]
-    clauses += [f"-{name(p, h)} -{name(q, h)} 0" for h in range(holes) for p in range(holes + 1) for q in range(p)]
-    formula, proof = os.path.join(folder, "formula"), os.path.join(folder, "proof")
-    write_formula(formula, (holes + 1) * holes, clauses)
-    done = subprocess.run(["cadical", "-q", "--lrat", "--no-binary", formula, proof], capture_output=True)
-    if done.returncode != 20:
+def pigeon_clauses(holes):
+    """One pigeon more than there are holes."""
+    def sits(pigeon, hole):
+        return pigeon * holes + hole + 1
+
+    clauses = [[sits(p, h) for h in range(holes)] for p in range(holes + 1)]
+    return clauses + [[-sits(p, h), -sits(q, h)] for h in range(holes) for p in range(holes + 1) for q in range(p)]
+
+
+class Propagation:
+    """Clauses under two watches each, and the reasons of what follows from assumed literals."""
+
+    def __init__(self, clauses):
+        self.clauses, self.watches, self.units = [None], {}, []
+        for lits in clauses:
+            self.add(lits)
+
+    def add(self, lits):
+        self.clauses.append(list(lits))
+        place = len(self.clauses) - 1
+        if len(lits) == 1:
+            self.units.append(place)
+        for lit in lits[:2]:
+            self.watches.setdefault(lit, []).append(place)
+        return place
+
+    def hints(self, lemma):
+        """The clauses that refute the lemma's negation, in the order in which they become unit."""
+        reasons = {-lit: 0 for lit in lemma}
+        queue = list(reasons)
+        for place in self.units:
+            lit = self.clauses[place][0]
+            if -lit in reasons:
+                return self.walk_back(reasons, place)
+            if lit not in reasons:
+                reasons[lit] = place
+                queue.append(lit)
+        for lit in queue:
+            conflict = self.visit(-lit, reasons, queue)
+            if conflict:
+                return self.walk_back(reasons, conflict)
         return None
-    hints = 0
-    with open(proof) as file:
-        for line in file:
-            words = line.split()
-            if len(words) > 1 and words[1] != "d":
-                hints += len(words) - words.index("0", 1) - 2
-    return len(clauses), hints
+
+    def visit(self, false, reasons, queue):
+        kept = self.watches.get(false, [])
+        self.watches[false] = still = []
+        for at, place in enumerate(kept):
+            lits = self.clauses[place]
+            if len(lits) > 1 and lits[0] == false:
+                lits[0], lits[1] = lits[1], lits[0]
+            if lits[0] in reasons:
+                still.append(place)
+                continue
+            other = next((k for k in range(2, len(lits)) if -lits[k] not in reasons), None)
+            if other is not None:
+                lits[1], lits[other] = lits[other], lits[1]
+                self.watches.setdefault(lits[1], []).append(place)
+                continue
+            still.append(place)
+            if -lits[0] in reasons:
+                still.extend(kept[at + 1:])
+                return place
+            reasons[lits[0]] = place
+            queue.append(lits[0])
+        return None
+
+    def walk_back(self, reasons, conflict):
+        needed = set(self.clauses[conflict])
+        named = [conflict]
+        for lit in reversed(list(reasons)):
+            if -lit in needed and reasons[lit]:
+                named.append(reasons[lit])
+                needed.update(self.clauses[reasons[lit]])
+        return named[::-1]
+
+
+def pigeons(_scale):
+    """A small pigeonhole formula, and the lemmas of cadical with hints of our own; clauses stay live."""
+    holes = 6
+    clauses = pigeon_clauses(holes)
+    variables = (holes + 1) * holes
+    lines = [" ".join(map(str, lits)) + " 0" for lits in clauses]
+    with tempfile.TemporaryDirectory() as folder:
+        formula, proof = os.path.join(folder, "formula"), os.path.join(folder, "proof")
+        write_formula(formula, variables, lines)
+        subprocess.run(["cadical", "-q", "--plain", "--no-binary", formula, proof], stdout=subprocess.DEVNULL)
+        with open(proof) as file:
+            lemmas = [list(map(int, line.split()[:-1])) for line in file if not line.startswith("d")]
+    known, steps, count = Propagation(clauses), [], 0
+    for lemma in lemmas:
+        hints = known.hints(lemma)
+        if hints is None:
+            raise SystemExit("a lemma of cadical doesn't follow by unit propagation")
+        place = known.add(lemma)
+        steps.append(f"{place} {''.join(f'{lit} ' for lit in lemma)}0 {' '.join(map(str, hints))} 0")
+        count += len(hints)
+        if not lemma:
+            break
+    return variables, lines, steps, count
 
 
 def write_formula(path, variables, clauses):
@@ -234,25 +318,39 @@ def compile_checker(folder):
     return program
 
 
+def make(family, scale, folder):
+    """Writes a family's files in a process of its own, so that its memory isn't measured."""
+    sizes = os.path.join(folder, "sizes")
+    pid = os.fork()
+    if pid == 0:
+        variables, clauses, steps, hints = family(scale)
+        write_formula(os.path.join(folder, "formula"), variables, clauses)
+        with open(os.path.join(folder, "proof"), "w") as file:
+            file.write("\n".join(steps) + "\n")
+        with open(sizes, "w") as file:
+            json.dump([len(clauses), hints], file)
+        os._exit(0)
+    _, status = os.waitpid(pid, 0)
+    if status:
+        sys.exit(1)
+    with open(sizes) as file:
+        return json.load(file)
+
+
 def main():
     scale = float(sys.argv[1]) if len(sys.argv) > 1 else 1.0
     if not os.path.exists(PROGRAM):
         sys.exit("no program: run `rt run` in crates/ketch first")
+    families = [("chain", chain), ("wide", wide), ("large", large)]
+    if shutil.which("cadical"):
+        families.append(("pigeons, by cadical", pigeons))
+    else:
+        print("no cadical: its proof is skipped")
     with tempfile.TemporaryDirectory() as folder:
         checker = compile_checker(folder)
-        formula, proof = os.path.join(folder, "formula"), os.path.join(folder, "proof")
-        for name, family in [("chain", chain), ("wide", wide), ("large", large)]:
-            variables, clauses, steps, hints = family(scale)
-            write_formula(formula, variables, clauses)
-            with open(proof, "w") as file:
-                file.write("\n".join(steps) + "\n")
-            compare(name, len(clauses), hints, formula, proof, checker)
-            del clauses, steps
-        made = shutil.which("cadical") and pigeons(folder, 8)
-        if made:
-            compare("pigeons, by cadical", made[0], made[1], formula, proof, checker)
-        else:
-            print("no cadical that writes LRAT: its proof is skipped")
+        for name, family in families:
+            clauses, hints = make(family, scale, folder)
+            compare(name, clauses, hints, os.path.join(folder, "formula"), os.path.join(folder, "proof"), checker)
 
 
 main()
