@@ -13,9 +13,12 @@ use Rattle.cover_run.specs.declared.stop.Stop.TheVariants as stops
 use Rattle.cover_run.specs.declared.stop.Status.{Status}
 use Rattle.cover_run.specs.declared.stop.Status.TheVariants as statuses
 use Rattle.cover_run.specs.Answer.{IsOutput, IsAnswer, Cause}
-use Rattle.cover_run.specs.Covering.{frames_of, walk_of, HasRoom, IsTooMuch, IsCircuitText, IsSignalsText, IsNoCircuit, IsNoSignals, HasCircuit, HasSignals, HasSomeCircuit, RefusesCircuit, RefusesSignals, IsCoverOutput}
+use Rattle.cover_run.specs.Covering.{frames_of, walk_of, HasRoom, IsTooMuch, IsCircuitText, IsSignalsText, IsNoCircuit, HasSignalsFault, HasCircuit, HasSignals, HasSomeCircuit, RefusesCircuit, RefusesSignals, IsCoverOutput}
 use Rattle.cover_run.specs.Files.{limit_of, IsTooLong}
-use Rattle.cover_run.specs.FirstForms.{SpellsCircuit, SpellsSignals}
+use Rattle.cover_run.specs.FirstForms.{SpellsCircuit}
+use Rattle.signal_list.specs.SignalText.{SpellsSignals, IsFirstFault as IsFirstInSignals}
+use Rattle.signal_list.specs.declared.fault.SigKind.{SigKind}
+use Rattle.signal_list.proofs.OneReading as signals_text
 use Rattle.cover_run.specs.Promises.{IsTold, IsToldTooLong, Accepts, IsUndisturbed, IsCovered, SettlesAsked, Headline, Completeness, TooMuchComes, BadCircuitComes, BadSignalsComes, LongCircuitComes, LongSignalsComes}
 use Rattle.cover_run.specs.Report.{IsReport}
 use Rattle.cover_run.specs.Seen.{DeskSeen, SinkSeen, HasFaulted, Failed, Took}
@@ -23,7 +26,6 @@ use Rattle.cover_run.specs.Stops.{status_of, settled_status}
 use Rattle.cover_run.specs.Words.{CoverCall, Command, Cover}
 use Rattle.cover_run.proofs.WhereTold.{IfSome-at}
 use Rattle.cover_run.proofs.CircuitText.{one_circuit}
-use Rattle.cover_run.proofs.SignalText.{one_signals}
 use Rattle.cover_run.proofs.Promised.{told_long, settled_either, not_ended, stopped_so}
 use Rattle.cover_run.proofs.Stopped.{CoverStops, too_much, circuit_unreadable, circuit_long, bad_circuit, signals_unreadable, signals_long, bad_signals, not_written, memory, cover_stops}
 
@@ -51,10 +53,11 @@ signals_spelled : (call : CoverCall) (d : DeskSeen) (t u : List ℕ) (c e : Part
 signals_spelled call d t u c e sig told spells told_u has has_signals =
     subst (λ (x : Parts). IsSignalsText x sig u) (same_told call d t c e told spells has) (IfSome-at (IsSignalsText e sig) (d.text call.signals) u told_u has_signals)
 
-signals_none : (call : CoverCall) (d : DeskSeen) (t u : List ℕ) (c : Parts) → d.text call.circuit ≡ Some t → SpellsCircuit t c → d.text call.signals ≡ Some u
-    → RefusesSignals call d → IsNoSignals c u
-signals_none call d t u c told spells told_u (e, has, none) =
-    subst (λ (x : Parts). IsNoSignals x u) (same_told call d t c e told spells has) (IfSome-at (IsNoSignals e) (d.text call.signals) u told_u none)
+signals_fault : (call : CoverCall) (d : DeskSeen) (t u : List ℕ) (c : Parts) (line : ℕ) (kind : SigKind) → d.text call.circuit ≡ Some t → SpellsCircuit t c
+    → d.text call.signals ≡ Some u → RefusesSignals call d line kind → HasSignalsFault c line kind u
+signals_fault call d t u c line kind told spells told_u (e, has, fault) =
+    subst (λ (x : Parts). HasSignalsFault x line kind u) (same_told call d t c e told spells has)
+    (IfSome-at (HasSignalsFault e line kind) (d.text call.signals) u told_u fault)
 
 -- ---- the refusals of the circuit come
 no_circuit_stops : (call : CoverCall) (d : DeskSeen) (out : SinkSeen) (stop : Stop) (t : List ℕ) → IsTold d files.Circuit call.circuit t → ((c : Parts) → ¬ SpellsCircuit t c)
@@ -64,7 +67,7 @@ no_circuit_stops call d out stop t told none (circuit_long e h) = absurd (told_l
 no_circuit_stops call d out stop t told none (bad_circuit e h) = inl e
 no_circuit_stops call d out stop t told none (signals_unreadable e has h) = absurd (told_none call d t told.told none has)
 no_circuit_stops call d out stop t told none (signals_long e has h) = absurd (told_none call d t told.told none has)
-no_circuit_stops call d out stop t told none (bad_signals e h) = absurd (told_none call d t told.told none (h.0, h.1))
+no_circuit_stops call d out stop t told none (bad_signals line kind e h) = absurd (told_none call d t told.told none (h.0, h.1))
 no_circuit_stops call d out stop t told none (too_much m e c sig has has_signals h) = absurd (told_none call d t told.told none (c, has))
 no_circuit_stops call d out stop t told none (not_written e h bytes settled o) = absurd (told_none call d t told.told none (o.circuit, o.has_circuit))
 no_circuit_stops call d out stop t told none (memory e) = inr e
@@ -95,7 +98,7 @@ long_circuit_stops call d out stop t long (circuit_long e h) = inl e
 long_circuit_stops call d out stop t long (bad_circuit e h) = absurd (too_long_refused call d t long h)
 long_circuit_stops call d out stop t long (signals_unreadable e has h) = absurd (too_long_none call d t has.0 long has.1)
 long_circuit_stops call d out stop t long (signals_long e has h) = absurd (too_long_none call d t has.0 long has.1)
-long_circuit_stops call d out stop t long (bad_signals e h) = absurd (too_long_none call d t h.0 long h.1)
+long_circuit_stops call d out stop t long (bad_signals line kind e h) = absurd (too_long_none call d t h.0 long h.1)
 long_circuit_stops call d out stop t long (too_much m e c sig has has_signals h) = absurd (too_long_none call d t c long has)
 long_circuit_stops call d out stop t long (not_written e h bytes settled o) = absurd (too_long_none call d t o.circuit long o.has_circuit)
 long_circuit_stops call d out stop t long (memory e) = inr e
@@ -111,7 +114,7 @@ long_circuit_comes command d out err status (inr s) call t e long =
 data SignalsStops (call : CoverCall) (d : DeskSeen) (out : SinkSeen) (c : Parts) (stop : Stop) : Type 0 where
   unreadable : HasFaulted d call.signals → SignalsStops call d out c stop
   long : stop ≡ stops.TooLong files.Signals → IsTooLong d files.Signals call.signals → SignalsStops call d out c stop
-  refused : stop ≡ stops.BadSignals → RefusesSignals call d → SignalsStops call d out c stop
+  refused : (line : ℕ) (kind : SigKind) → stop ≡ stops.BadSignals line kind → RefusesSignals call d line kind → SignalsStops call d out c stop
   asks_too_much : (m : Measure) → stop ≡ stops.TooLarge m → (sig : List ℕ) → HasSignals call d c sig → IsTooMuch call.options c m → SignalsStops call d out c stop
   written : Failed out → (bytes : List ℕ) (settled : Bool) → IsCoverOutput call d bytes settled → SignalsStops call d out c stop
   short_of_memory : stop ≡ stops.OutOfMemory → SignalsStops call d out c stop
@@ -123,32 +126,40 @@ after_circuit call d out stop t c told spells (circuit_long e h) = absurd (told_
 after_circuit call d out stop t c told spells (bad_circuit e h) = absurd (told_refused call d t c told.told spells h)
 after_circuit call d out stop t c told spells (signals_unreadable e has h) = unreadable h
 after_circuit call d out stop t c told spells (signals_long e has h) = long e h
-after_circuit call d out stop t c told spells (bad_signals e h) = refused e h
+after_circuit call d out stop t c told spells (bad_signals line kind e h) = refused line kind e h
 after_circuit call d out stop t c told spells (too_much m e k sig has has_signals h) =
     let same = same_told call d t c k told.told spells has in
     asks_too_much m e sig (subst (λ (x : Parts). HasSignals call d x sig) same has_signals) (subst (λ (x : Parts). IsTooMuch call.options x m) same h)
 after_circuit call d out stop t c told spells (not_written e h bytes settled o) = written h bytes settled o
 after_circuit call d out stop t c told spells (memory e) = short_of_memory e
 
-no_signals_stops : (call : CoverCall) (d : DeskSeen) (out : SinkSeen) (stop : Stop) (t u : List ℕ) (c : Parts) → IsTold d files.Circuit call.circuit t → SpellsCircuit t c
-    → IsTold d files.Signals call.signals u → ((sig : List ℕ) → ¬ SpellsSignals c u sig) → SignalsStops call d out c stop
-    → (stop ≡ stops.BadSignals) ⊎ (stop ≡ stops.OutOfMemory)
-no_signals_stops call d out stop t u c told spells also none (unreadable h) = absurd (also.no_fault h)
-no_signals_stops call d out stop t u c told spells also none (long e h) = absurd (told_long d files.Signals call.signals u also.told also.short h)
-no_signals_stops call d out stop t u c told spells also none (refused e h) = inl e
-no_signals_stops call d out stop t u c told spells also none (asks_too_much m e sig has h) =
-    absurd (none sig (IfSome-at (IsSignalsText c sig) (d.text call.signals) u also.told has).spells)
-no_signals_stops call d out stop t u c told spells also none (written h bytes settled o) =
-    absurd (none o.signals (signals_spelled call d t u c o.circuit o.signals told.told spells also.told o.has_circuit o.has_signals).spells)
-no_signals_stops call d out stop t u c told spells also none (short_of_memory e) = inr e
+-- a text with a first fault spells no signals
+faulty : (call : CoverCall) (d : DeskSeen) (t u : List ℕ) (c e : Parts) (sig : List ℕ) (line : ℕ) (kind : SigKind) → d.text call.circuit ≡ Some t → SpellsCircuit t c
+    → d.text call.signals ≡ Some u → IsFirstInSignals c u line kind → HasCircuit call d e → HasSignals call d e sig → ⊥
+faulty call d t u c e sig line kind told spells told_u first has has_signals =
+    signals_text.not-both c u sig line kind (signals_spelled call d t u c e sig told spells told_u has has_signals).spells first
+
+bad_signals_stops : (call : CoverCall) (d : DeskSeen) (out : SinkSeen) (stop : Stop) (t u : List ℕ) (c : Parts) (line : ℕ) (kind : SigKind)
+    → IsTold d files.Circuit call.circuit t → SpellsCircuit t c → IsTold d files.Signals call.signals u → IsFirstInSignals c u line kind → SignalsStops call d out c stop
+    → (stop ≡ stops.BadSignals line kind) ⊎ (stop ≡ stops.OutOfMemory)
+bad_signals_stops call d out stop t u c line kind told spells also first (unreadable h) = absurd (also.no_fault h)
+bad_signals_stops call d out stop t u c line kind told spells also first (long e h) = absurd (told_long d files.Signals call.signals u also.told also.short h)
+bad_signals_stops call d out stop t u c line kind told spells also first (refused m k e h) =
+    let same = signals_text.one-fault c u m line k kind (signals_fault call d t u c m k told.told spells also.told h).first first in
+    inl (e ∙ (ap (λ (x : ℕ). stops.BadSignals x k) same.0 ∙ ap (λ (x : SigKind). stops.BadSignals line x) same.1))
+bad_signals_stops call d out stop t u c line kind told spells also first (asks_too_much m e sig has h) =
+    absurd (signals_text.not-both c u sig line kind (IfSome-at (IsSignalsText c sig) (d.text call.signals) u also.told has).spells first)
+bad_signals_stops call d out stop t u c line kind told spells also first (written h bytes settled o) =
+    absurd (faulty call d t u c o.circuit o.signals line kind told.told spells also.told first o.has_circuit o.has_signals)
+bad_signals_stops call d out stop t u c line kind told spells also first (short_of_memory e) = inr e
 
 pub bad_signals_comes : (command : Command) (d : DeskSeen) (out err : SinkSeen) (status : Status) → IsAnswer command d out err status → BadSignalsComes command d err status
-bad_signals_comes command d out err status (inl w) call t c u e told spells also none =
+bad_signals_comes command d out err status (inl w) call t c u line kind e told spells also first =
     let o = cover_output command call d w.whole.bytes w.settled e w.whole.output in
-    absurd (none o.signals (signals_spelled call d t u c o.circuit o.signals told.told spells also.told o.has_circuit o.has_signals).spells)
-bad_signals_comes command d out err status (inr s) call t c u e told spells also none =
-    stopped_so command d out err status stops.BadSignals s
-    (no_signals_stops call d out s.stop t u c told spells also none (after_circuit call d out s.stop t c told spells (stops_of command call d out s.stop e s.stopped.cause)))
+    absurd (faulty call d t u c o.circuit o.signals line kind told.told spells also.told first o.has_circuit o.has_signals)
+bad_signals_comes command d out err status (inr s) call t c u line kind e told spells also first =
+    stopped_so command d out err status (stops.BadSignals line kind) s
+    (bad_signals_stops call d out s.stop t u c line kind told spells also first (after_circuit call d out s.stop t c told spells (stops_of command call d out s.stop e s.stopped.cause)))
 
 too_long_signals : (call : CoverCall) (d : DeskSeen) (u : List ℕ) → IsToldTooLong d files.Signals call.signals u → length u ≤ limit_of files.Signals → ⊥
 too_long_signals call d u past short = let over : limit_of files.Signals < length u = past.long in omega arith
@@ -157,7 +168,8 @@ long_signals_stops : (call : CoverCall) (d : DeskSeen) (out : SinkSeen) (stop : 
     → IsToldTooLong d files.Signals call.signals u → SignalsStops call d out c stop → (stop ≡ stops.TooLong files.Signals) ⊎ (stop ≡ stops.OutOfMemory)
 long_signals_stops call d out stop t u c told spells past (unreadable h) = absurd (past.no_fault h)
 long_signals_stops call d out stop t u c told spells past (long e h) = inl e
-long_signals_stops call d out stop t u c told spells past (refused e h) = absurd (too_long_signals call d u past (signals_none call d t u c told.told spells past.told h).short)
+long_signals_stops call d out stop t u c told spells past (refused m k e h) =
+    absurd (too_long_signals call d u past (signals_fault call d t u c m k told.told spells past.told h).short)
 long_signals_stops call d out stop t u c told spells past (asks_too_much m e sig has h) =
     absurd (too_long_signals call d u past (IfSome-at (IsSignalsText c sig) (d.text call.signals) u past.told has).short)
 long_signals_stops call d out stop t u c told spells past (written h bytes settled o) =
@@ -193,8 +205,8 @@ too_much_stops : (call : CoverCall) (d : DeskSeen) (out : SinkSeen) (stop : Stop
     → (stop ≡ stops.TooLarge m) ⊎ (stop ≡ stops.OutOfMemory)
 too_much_stops call d out stop t u sig c m told spells also spells_signals much (unreadable h) = absurd (also.no_fault h)
 too_much_stops call d out stop t u sig c m told spells also spells_signals much (long e h) = absurd (told_long d files.Signals call.signals u also.told also.short h)
-too_much_stops call d out stop t u sig c m told spells also spells_signals much (refused e h) =
-    absurd ((signals_none call d t u c told.told spells also.told h).none sig spells_signals)
+too_much_stops call d out stop t u sig c m told spells also spells_signals much (refused n k e h) =
+    absurd (signals_text.not-both c u sig n k spells_signals (signals_fault call d t u c n k told.told spells also.told h).first)
 too_much_stops call d out stop t u sig c m told spells also spells_signals much (asks_too_much n e other has h) =
     inl (e ∙ ap (λ (x : Measure). stops.TooLarge x) (one_measure call.options c n m h much))
 too_much_stops call d out stop t u sig c m told spells also spells_signals much (written h bytes settled o) =
@@ -232,7 +244,7 @@ covered call d out status c sig bytes settled accepts o took e =
     let same_circuit : o.circuit ≡ c = same_told call d accepts.circuit_text c o.circuit accepts.circuit_told accepts.circuit o.has_circuit in
     let spelled : IsSignalsText c o.signals accepts.signals_text =
     signals_spelled call d accepts.circuit_text accepts.signals_text c o.circuit o.signals accepts.circuit_told accepts.circuit accepts.signals_told o.has_circuit o.has_signals in
-    let same_signals : o.signals ≡ sig = one_signals c accepts.signals_text o.signals sig accepts.circuit.well_formed spelled.spells accepts.signals in
+    let same_signals : o.signals ≡ sig = signals_text.one-list c accepts.signals_text o.signals sig spelled.spells accepts.signals in
     subst (λ (x : Parts). IsCovered call x sig out status) same_circuit
     (subst (λ (xs : List ℕ). IsCovered call o.circuit xs out status) same_signals (covered_by call d out status bytes settled o took e))
 
@@ -250,7 +262,8 @@ accepted_signals : (call : CoverCall) (d : DeskSeen) (out : SinkSeen) (c : Parts
     → SignalsStops call d out c stop → stop ≡ stops.OutOfMemory
 accepted_signals call d out c sig stop a room u (unreadable h) = absurd (u.files files.Signals h)
 accepted_signals call d out c sig stop a room u (long e h) = absurd (told_long d files.Signals call.signals a.signals_text a.signals_told a.signals_short h)
-accepted_signals call d out c sig stop a room u (refused e h) = absurd ((signals_none call d a.circuit_text a.signals_text c a.circuit_told a.circuit a.signals_told h).none sig a.signals)
+accepted_signals call d out c sig stop a room u (refused m k e h) =
+    absurd (signals_text.not-both c a.signals_text sig m k a.signals (signals_fault call d a.circuit_text a.signals_text c m k a.circuit_told a.circuit a.signals_told h).first)
 accepted_signals call d out c sig stop a room u (asks_too_much m e other has h) = absurd (not_too_much call.options c m room h)
 accepted_signals call d out c sig stop a room u (written h bytes settled o) = absurd (u.output h)
 accepted_signals call d out c sig stop a room u (short_of_memory e) = e

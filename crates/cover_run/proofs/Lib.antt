@@ -11,7 +11,6 @@ pub mod Posted
 pub mod Promised
 pub mod Reading
 pub mod Shown
-pub mod SignalText
 pub mod Spelled
 pub mod Stopped
 pub mod Told

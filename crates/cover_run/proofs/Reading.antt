@@ -26,7 +26,7 @@ unless-of (stops.Unreadable f) P h = h
 unless-of (stops.TooLong f) P h = tt
 unless-of (stops.TooLarge m) P h = h
 unless-of stops.BadCircuit P h = h
-unless-of stops.BadSignals P h = h
+unless-of (stops.BadSignals line kind) P h = h
 unless-of (stops.Refused why) P h = h
 unless-of stops.CannotWrite P h = h
 unless-of stops.OutOfMemory P h = h
@@ -37,7 +37,7 @@ unless-map (stops.Unreadable x) P Q f h = f h
 unless-map (stops.TooLong x) P Q f h = tt
 unless-map (stops.TooLarge m) P Q f h = f h
 unless-map stops.BadCircuit P Q f h = f h
-unless-map stops.BadSignals P Q f h = f h
+unless-map (stops.BadSignals line kind) P Q f h = f h
 unless-map (stops.Refused why) P Q f h = f h
 unless-map stops.CannotWrite P Q f h = f h
 unless-map stops.OutOfMemory P Q f h = f h
@@ -86,7 +86,7 @@ formula_refused call d bytes read (stops.TooLarge measures.Formula) is short tol
 formula_refused call d bytes read (stops.TooLarge measures.Frames) is short told cause = absurd cause
 formula_refused call d bytes read (stops.TooLarge measures.Walk) is short told cause = absurd cause
 formula_refused call d bytes read stops.BadCircuit is short told cause = absurd cause
-formula_refused call d bytes read stops.BadSignals is short told cause = absurd cause
+formula_refused call d bytes read (stops.BadSignals line kind) is short told cause = absurd cause
 formula_refused call d bytes read (stops.Refused (refusals.Formula line kind)) is short told cause = (
   cause.0,
   IfSome-map (λ (t : List ℕ). bytes ≡ t) (HasFormulaFault line kind) (d.text call.formula)

@@ -7,7 +7,7 @@ use Rattle.std.proofs.lemmas.Bool.Decides.{nat_tests}
 use Rattle.std.proofs.lemmas.Fmt.{decimal_by_steps}
 use Rattle.std.proofs.lemmas.List.{append-nil}
 use Rattle.report_text.specs.Text.{line, text}
-use Rattle.cover_run.specs.FirstForms.{numbers_line, latch_line, one_number}
+use Rattle.cover_run.specs.FirstForms.{numbers_line}
 use Rattle.cover_run.specs.FirstReading.{rows_from, number_rows, with_digit}
 use Rattle.cover_run.proofs.Picking.{rows_from-digit, rows_from-newline, rows_from-other, rows_from-end}
 
@@ -84,15 +84,3 @@ pub circuit_picked : (n : ℕ) (ns : List ℕ) (more : List (List ℕ)) → IsSh
 circuit_picked n ns more short shorts =
     magic_passed (line (numbers_line (n ∷ ns)) ++ text (map numbers_line more))
     ∙ line_picked [] [] n ns short (text (map numbers_line more)) ∙ rows_picked ((n ∷ ns) ∷ []) more shorts
-
--- the text of signals: `l` stands before each number
-places_picked : (rows : List (List ℕ)) (places : List ℕ) → IsShortRow places → rows_from rows [] None (text (map latch_line places)) ≡ rows ++ map one_number places
-places_picked rows [] short = rows_from-end rows [] None ∙ sym (append-nil rows)
-places_picked rows (k ∷ ks) short =
-    rows_from-other rows [] None 108 (line (numbers_line (one_number k)) ++ text (map latch_line ks)) refl refl
-    ∙ line_picked rows [] k [] (short.0, tt) (text (map latch_line ks))
-    ∙ places_picked (rows ++ one_number k ∷ []) ks short.1
-    ∙ append_assoc rows (one_number k ∷ []) (map one_number ks)
-
-pub signals_picked : (places : List ℕ) → IsShortRow places → number_rows (text (map latch_line places)) ≡ map one_number places
-signals_picked places short = places_picked [] places short

@@ -9,6 +9,7 @@ use Rattle.lrat_text.specs.declared.fault.LratKind.{LratKind}
 use Rattle.lrat_text.specs.declared.proof.LratStep.{LratStep}
 use Rattle.lrat_check.specs.declared.fault.ProofKind.{ProofKind}
 use Rattle.lrat_check.specs.FirstFault.{first_fault}
+use Rattle.signal_list.specs.declared.fault.SigKind.{SigKind}
 use Rattle.cover_run.specs.declared.stop.File.TheVariants as files
 use Rattle.cover_run.specs.declared.stop.Measure.{Measure}
 use Rattle.cover_run.specs.declared.stop.Measure.TheVariants as measures
@@ -28,7 +29,7 @@ pub data CoverStops (call : CoverCall) (d : DeskSeen) (out : SinkSeen) (stop : S
   bad_circuit : stop ≡ stops.BadCircuit → RefusesCircuit call d → CoverStops call d out stop
   signals_unreadable : stop ≡ stops.Unreadable files.Signals → HasSomeCircuit call d → HasFaulted d call.signals → CoverStops call d out stop
   signals_long : stop ≡ stops.TooLong files.Signals → HasSomeCircuit call d → IsTooLong d files.Signals call.signals → CoverStops call d out stop
-  bad_signals : stop ≡ stops.BadSignals → RefusesSignals call d → CoverStops call d out stop
+  bad_signals : (line : ℕ) (kind : SigKind) → stop ≡ stops.BadSignals line kind → RefusesSignals call d line kind → CoverStops call d out stop
   too_much : (m : Measure) → stop ≡ stops.TooLarge m → (c : Parts) (sig : List ℕ) → HasCircuit call d c → HasSignals call d c sig → IsTooMuch call.options c m
       → CoverStops call d out stop
   not_written : stop ≡ stops.CannotWrite → Failed out → (bytes : List ℕ) (settled : Bool) → IsCoverOutput call d bytes settled → CoverStops call d out stop
@@ -46,7 +47,7 @@ cover_stops call d out (stops.TooLong files.Formula) cause = absurd cause.0
 cover_stops call d out (stops.TooLong files.Proof) cause = absurd cause.0
 cover_stops call d out (stops.TooLarge m) cause = too_much m refl cause.0 cause.1 cause.2 cause.3 cause.4
 cover_stops call d out stops.BadCircuit cause = bad_circuit refl cause
-cover_stops call d out stops.BadSignals cause = bad_signals refl cause
+cover_stops call d out (stops.BadSignals line kind) cause = bad_signals line kind refl cause
 cover_stops call d out (stops.Refused why) cause = absurd cause
 cover_stops call d out stops.CannotWrite cause = not_written refl cause.0 cause.1.0 cause.1.1 cause.1.2
 cover_stops call d out stops.OutOfMemory cause = memory refl
@@ -85,7 +86,7 @@ lrat_stops call d out (stops.TooLarge measures.Formula) cause = bad_formula caus
 lrat_stops call d out (stops.TooLarge measures.Frames) cause = absurd cause
 lrat_stops call d out (stops.TooLarge measures.Walk) cause = absurd cause
 lrat_stops call d out stops.BadCircuit cause = absurd cause
-lrat_stops call d out stops.BadSignals cause = absurd cause
+lrat_stops call d out (stops.BadSignals line kind) cause = absurd cause
 lrat_stops call d out (stops.Refused (refusals.Formula line kind)) cause = bad_formula line kind (refused_formula line kind cause.0) cause.1
 lrat_stops call d out (stops.Refused (refusals.Proof line kind)) cause = bad_proof line kind refl cause.0 cause.1
 lrat_stops call d out (stops.Refused (refusals.Step step kind)) cause = bad_step step kind refl cause.0 cause.1 cause.2 cause.3 cause.4
@@ -98,7 +99,7 @@ help_stops d out (stops.Unreadable f) cause = absurd cause.0
 help_stops d out (stops.TooLong f) cause = absurd cause.0
 help_stops d out (stops.TooLarge m) cause = absurd cause
 help_stops d out stops.BadCircuit cause = absurd cause
-help_stops d out stops.BadSignals cause = absurd cause
+help_stops d out (stops.BadSignals line kind) cause = absurd cause
 help_stops d out (stops.Refused why) cause = absurd cause
 help_stops d out stops.CannotWrite cause = inl cause.0
 help_stops d out stops.OutOfMemory cause = inr refl
@@ -109,7 +110,7 @@ version_stops d out (stops.Unreadable f) cause = absurd cause.0
 version_stops d out (stops.TooLong f) cause = absurd cause.0
 version_stops d out (stops.TooLarge m) cause = absurd cause
 version_stops d out stops.BadCircuit cause = absurd cause
-version_stops d out stops.BadSignals cause = absurd cause
+version_stops d out (stops.BadSignals line kind) cause = absurd cause
 version_stops d out (stops.Refused why) cause = absurd cause
 version_stops d out stops.CannotWrite cause = inl cause.0
 version_stops d out stops.OutOfMemory cause = inr refl

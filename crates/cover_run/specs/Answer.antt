@@ -1,6 +1,7 @@
 -- How a run ends, and why.
 use Rattle.std.specs.Prelude.{◌≡◌, ◌≢◌, ◌⊎◌, ℕ, Bool, true, List, IsSomeAnd}
 use Rattle.run_io.specs.Sink.{GrewByPrefix}
+use Rattle.signal_list.specs.declared.fault.SigKind.{SigKind}
 use Rattle.cover_run.specs.declared.stop.File.{File}
 use Rattle.cover_run.specs.declared.stop.File.TheVariants as files
 use Rattle.cover_run.specs.declared.stop.Measure.{Measure}
@@ -39,9 +40,9 @@ abbrev pub HasBadCircuit : Command → DeskSeen → Type 0
 HasBadCircuit (Cover call) d = RefusesCircuit call d
 HasBadCircuit command d = ⊥
 
-abbrev pub HasBadSignals : Command → DeskSeen → Type 0
-HasBadSignals (Cover call) d = RefusesSignals call d
-HasBadSignals command d = ⊥
+abbrev pub HasBadSignals : Command → DeskSeen → ℕ → SigKind → Type 0
+HasBadSignals (Cover call) d line kind = RefusesSignals call d line kind
+HasBadSignals command d line kind = ⊥
 
 -- a number of the input is past its limit
 abbrev pub IsTooLarge : Command → DeskSeen → Measure → Type 0
@@ -60,7 +61,7 @@ EarlyCause command d (stops.Unreadable f) = IsReached command d f × IsSomeAnd (
 EarlyCause command d (stops.TooLong f) = IsReached command d f × IsSomeAnd (name_of command f) (IsTooLong d f)
 EarlyCause command d (stops.TooLarge m) = IsTooLarge command d m
 EarlyCause command d stops.BadCircuit = HasBadCircuit command d
-EarlyCause command d stops.BadSignals = HasBadSignals command d
+EarlyCause command d (stops.BadSignals line kind) = HasBadSignals command d line kind
 EarlyCause command d (stops.Refused why) = IsRefused command d why
 EarlyCause command d stops.CannotWrite = ⊥
 EarlyCause command d stops.OutOfMemory = command ≢ Usage

@@ -5,11 +5,13 @@ use Rattle.report_text.specs.declared.options.Options.{Options}
 use Rattle.cover_run.specs.declared.stop.File.TheVariants as files
 use Rattle.cover_run.specs.declared.stop.Measure.{Measure}
 use Rattle.cover_run.specs.declared.stop.Measure.TheVariants as measures
-use Rattle.cover_run.specs.FirstForms.{SpellsCircuit, SpellsSignals}
+use Rattle.cover_run.specs.FirstForms.{SpellsCircuit}
 use Rattle.cover_run.specs.Files.{limit_of}
 use Rattle.cover_run.specs.Report.{IsReport}
 use Rattle.cover_run.specs.Seen.{DeskSeen}
 use Rattle.cover_run.specs.Words.{CoverCall}
+use Rattle.signal_list.specs.SignalText.{SpellsSignals, IsFirstFault}
+use Rattle.signal_list.specs.declared.fault.SigKind.{SigKind}
 
 -- a text within its limit that spells the circuit, and one that spells the signals
 pub record IsCircuitText (c : Parts) (t : List ℕ) : Type 0 where
@@ -20,14 +22,15 @@ pub record IsSignalsText (c : Parts) (sig : List ℕ) (t : List ℕ) : Type 0 wh
   pub short : length t ≤ limit_of files.Signals
   pub spells : SpellsSignals c t sig
 
--- a text within its limit that spells none
+-- a text within its limit that spells no circuit
 pub record IsNoCircuit (t : List ℕ) : Type 0 where
   pub short : length t ≤ limit_of files.Circuit
   pub none : (c : Parts) → ¬ SpellsCircuit t c
 
-pub record IsNoSignals (c : Parts) (t : List ℕ) : Type 0 where
+-- a text within its limit with this first fault, as signals of the circuit
+pub record HasSignalsFault (c : Parts) (line : ℕ) (kind : SigKind) (t : List ℕ) : Type 0 where
   pub short : length t ≤ limit_of files.Signals
-  pub none : (sig : List ℕ) → ¬ SpellsSignals c t sig
+  pub first : IsFirstFault c t line kind
 
 -- the texts, where they are told, are accepted as this circuit and these signals
 abbrev pub HasCircuit : CoverCall → DeskSeen → Parts → Type 0
@@ -63,8 +66,8 @@ IsTooMuch o c m = ⊥
 abbrev pub RefusesCircuit : CoverCall → DeskSeen → Type 0
 RefusesCircuit call d = IfSome (d.text call.circuit) IsNoCircuit
 
-abbrev pub RefusesSignals : CoverCall → DeskSeen → Type 0
-RefusesSignals call d = (c : Parts) × HasCircuit call d c × IfSome (d.text call.signals) (IsNoSignals c)
+abbrev pub RefusesSignals : CoverCall → DeskSeen → ℕ → SigKind → Type 0
+RefusesSignals call d line kind = (c : Parts) × HasCircuit call d c × IfSome (d.text call.signals) (HasSignalsFault c line kind)
 
 -- both texts are accepted, and what is asked for is too much
 abbrev pub HasTooMuch : CoverCall → DeskSeen → Measure → Type 0

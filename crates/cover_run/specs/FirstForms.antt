@@ -1,10 +1,9 @@
--- The texts that are read so far: circuits without gates, and signals that are latches.
-use Rattle.std.specs.Prelude.{◌≡◌, ◌⊎◌, ℕ, ◌+◌, ◌<◌, ◌≤◌, List, [], ◌∷◌, ◌++◌, length, map, get_or, codes, decimal, All}
+-- The circuit texts that are read so far: those without gates.
+use Rattle.std.specs.Prelude.{◌≡◌, ◌⊎◌, ℕ, ◌+◌, ◌≤◌, List, [], ◌∷◌, ◌++◌, length, map, codes, decimal}
 use Rattle.aig_model.specs.declared.parts.Parts.{Parts}
 use Rattle.aig_model.specs.declared.parts.Latch.{Latch}
 use Rattle.aig_model.specs.declared.parts.Reset.{Reset}
 use Rattle.aig_model.specs.declared.parts.Reset.TheVariants.{Zero, One, Free}
-use Rattle.aig_model.specs.SignalList.{IsSignals}
 use Rattle.aig_model.specs.WellFormed.{IsCircuit}
 use Rattle.report_text.specs.Text.{Line, text}
 
@@ -53,18 +52,3 @@ pub record SpellsCircuit (bytes : List ℕ) (c : Parts) : Type 0 where
   pub latch_rows : List (List ℕ)
   pub latches : AreLatchRows c.latches latch_rows
   pub spelled : bytes ≡ text (circuit_lines c latch_rows)
-
--- ---- signals: one to ten lines `l<k>`, each for another latch
-abbrev pub latch_line : ℕ → Line
-latch_line k = (codes "l" ++ decimal k) ∷ []
-
--- the literal of latch k
-abbrev pub latch_lit : Parts → ℕ → ℕ
-latch_lit c k = get_or (map (λ (l : Latch). l.lit) c.latches) k 0
-
-pub record SpellsSignals (c : Parts) (bytes : List ℕ) (sig : List ℕ) : Type 0 where
-  pub places : List ℕ
-  pub exist : All (λ k. k < length c.latches) places
-  pub lits : sig ≡ map (latch_lit c) places
-  pub signals : IsSignals c sig
-  pub spelled : bytes ≡ text (map latch_line places)

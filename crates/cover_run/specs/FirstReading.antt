@@ -1,6 +1,6 @@
 -- How the texts are read. Numbers are picked out leniently; whether the text is in the form is decided by
 -- writing what was picked, and comparing.
-use Rattle.std.specs.Prelude.{ℕ, ◌≡◌, codes, ◌+◌, ◌-◌, ◌*◌, ◌<◌, ◌≤◌, if◌then◌else◌, nat_eq, nat_lt, List, [], ◌∷◌, ◌++◌, length, get_or, take, drop, map, Option, Some, None}
+use Rattle.std.specs.Prelude.{ℕ, ◌≡◌, codes, ◌+◌, ◌-◌, ◌*◌, ◌≤◌, if◌then◌else◌, nat_eq, nat_lt, List, [], ◌∷◌, ◌++◌, length, get_or, take, drop, map, Option, Some, None}
 use Rattle.std.specs.Char.{is_ascii_digit}
 use Rattle.aig_model.specs.declared.parts.Latch.{Latch}
 use Rattle.aig_model.specs.declared.parts.Reset.{Reset}
@@ -37,10 +37,6 @@ number_rows bytes = rows_from [] [] None bytes
 
 abbrev pub first_number : List ℕ → ℕ
 first_number row = get_or row 0 0
-
--- the first number of each line
-abbrev pub picked_places : List ℕ → List ℕ
-picked_places bytes = map first_number (number_rows bytes)
 
 -- ---- the parts that rows hold, whatever they are: missing numbers are 0, missing rows are left out
 abbrev pub number_in : List (List ℕ) → ℕ → ℕ → ℕ
@@ -96,7 +92,3 @@ pub record IsTextOf (bytes : List ℕ) (c : Parts) : Type 0 where
   pub latch_rows : List (List ℕ)
   pub latches : AreLatchRows c.latches latch_rows
   pub spelled : bytes ≡ text (circuit_lines c latch_rows)
-
-pub record IsSignalCount (n : ℕ) : Type 0 where
-  pub some : 0 < n
-  pub few : n ≤ 10

@@ -7,6 +7,8 @@ use Rattle.cnf_base.specs.declared.fault.DimacsKind.{DimacsKind}
 use Rattle.lrat_text.specs.Lrat.{SpellsProof, IsFirstFault as IsFirstInProof}
 use Rattle.lrat_text.specs.declared.fault.LratKind.{LratKind}
 use Rattle.lrat_text.specs.declared.proof.LratStep.{LratStep}
+use Rattle.signal_list.specs.SignalText.{SpellsSignals, IsFirstFault as IsFirstInSignals}
+use Rattle.signal_list.specs.declared.fault.SigKind.{SigKind}
 use Rattle.lrat_check.specs.Accepted.{Accepted}
 use Rattle.lrat_check.specs.FirstFault.{first_fault}
 use Rattle.lrat_check.specs.declared.fault.ProofKind.{ProofKind}
@@ -25,7 +27,7 @@ use Rattle.cover_run.specs.About.{help_text, version_text}
 use Rattle.cover_run.specs.Checking.{formula_stop}
 use Rattle.cover_run.specs.Covering.{HasRoom, IsTooMuch}
 use Rattle.cover_run.specs.Files.{name_of, limit_of, IsTooLong, IsWithin}
-use Rattle.cover_run.specs.FirstForms.{SpellsCircuit, SpellsSignals}
+use Rattle.cover_run.specs.FirstForms.{SpellsCircuit}
 use Rattle.cover_run.specs.Report.{IsReport, Asked, bounds_of, is_open}
 use Rattle.cover_run.specs.Seen.{DeskSeen, SinkSeen, HasFaulted, Failed, Took, TookWhatItCould}
 use Rattle.cover_run.specs.Stops.{line_of, status_of}
@@ -157,9 +159,10 @@ ReadFaultCause command d err status =
 abbrev pub BadCircuitCause : Command → DeskSeen → Status → Type 0
 BadCircuitCause command d status = status ≡ statuses.BadCircuit → HasBadCircuit command d
 
--- only where a circuit is spelled, and no signals for it
-abbrev pub BadSignalsCause : Command → DeskSeen → Status → Type 0
-BadSignalsCause command d status = status ≡ statuses.BadSignals → HasBadSignals command d
+-- only where a circuit is spelled, and the signals' text has the first fault that the line says
+abbrev pub BadSignalsCause : Command → DeskSeen → SinkSeen → Status → Type 0
+BadSignalsCause command d err status =
+    status ≡ statuses.BadSignals → (line : ℕ) × (kind : SigKind) × HasBadSignals command d line kind × TookWhatItCould err (line_of (stops.BadSignals line kind))
 
 -- only where a byte past the limit of the file in the line was given, or the number in the line is past its limit
 abbrev pub LimitCause : Command → DeskSeen → SinkSeen → Status → Type 0
@@ -184,8 +187,8 @@ BadCircuitComes command d err status =
 
 abbrev pub BadSignalsComes : Command → DeskSeen → SinkSeen → Status → Type 0
 BadSignalsComes command d err status =
-    (call : CoverCall) (t : List ℕ) (c : Parts) (u : List ℕ) → command ≡ Cover call → IsTold d files.Circuit call.circuit t → SpellsCircuit t c
-    → IsTold d files.Signals call.signals u → ((sig : List ℕ) → ¬ SpellsSignals c u sig) → Answers err status stops.BadSignals
+    (call : CoverCall) (t : List ℕ) (c : Parts) (u : List ℕ) (line : ℕ) (kind : SigKind) → command ≡ Cover call → IsTold d files.Circuit call.circuit t
+    → SpellsCircuit t c → IsTold d files.Signals call.signals u → IsFirstInSignals c u line kind → Answers err status (stops.BadSignals line kind)
 
 -- what is asked of a circuit and signals that are accepted is too much
 abbrev pub TooMuchComes : Command → DeskSeen → SinkSeen → Status → Type 0

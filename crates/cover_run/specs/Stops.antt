@@ -1,5 +1,7 @@
 -- What the user sees of a stop: the status, and the line on the error stream.
 use Rattle.std.specs.Prelude.{ℕ, Bool, true, false, if◌then◌else◌, List, ◌++◌, codes, decimal}
+use Rattle.signal_list.specs.declared.fault.SigKind.{SigKind}
+use Rattle.signal_list.specs.declared.fault.SigKind.TheVariants as sig
 use Rattle.cnf_base.specs.declared.fault.DimacsKind.{DimacsKind}
 use Rattle.cnf_base.specs.declared.fault.DimacsKind.TheVariants as dimacs
 use Rattle.lrat_text.specs.declared.fault.LratKind.{LratKind}
@@ -23,7 +25,7 @@ status_of (stops.Unreadable f) = statuses.ReadFault
 status_of (stops.TooLong f) = statuses.Limit
 status_of (stops.TooLarge m) = statuses.Limit
 status_of stops.BadCircuit = statuses.BadCircuit
-status_of stops.BadSignals = statuses.BadSignals
+status_of (stops.BadSignals line kind) = statuses.BadSignals
 status_of (stops.Refused why) = statuses.Refused
 status_of stops.CannotWrite = statuses.WriteFault
 status_of stops.OutOfMemory = statuses.WantOfMemory
@@ -55,6 +57,15 @@ measure_word measures.Frames = codes "frames"
 measure_word measures.Walk = codes "walk"
 
 -- the names of the kinds of fault
+abbrev pub sig_word : SigKind → List ℕ
+sig_word sig.Form = codes "Form"
+sig_word sig.Range = codes "Range"
+sig_word sig.NoName = codes "NoName"
+sig_word sig.TwoNames = codes "TwoNames"
+sig_word sig.Repeated = codes "Repeated"
+sig_word sig.TooMany = codes "TooMany"
+sig_word sig.Empty = codes "Empty"
+
 abbrev pub dimacs_word : DimacsKind → List ℕ
 dimacs_word dimacs.Header = codes "Header"
 dimacs_word dimacs.Literal = codes "Literal"
@@ -98,7 +109,7 @@ line_of (stops.Unreadable f) = word_line (codes "ketch: cannot read ") (file_wor
 line_of (stops.TooLong f) = word_line (codes "ketch: limit: ") (file_word f)
 line_of (stops.TooLarge m) = word_line (codes "ketch: limit: ") (measure_word m)
 line_of stops.BadCircuit = codes "ketch: circuit at 0: NotBuilt\n"
-line_of stops.BadSignals = codes "ketch: signals line 0: NotBuilt\n"
+line_of (stops.BadSignals line kind) = placed_line (codes "ketch: signals line ") line (sig_word kind)
 line_of (stops.Refused why) = refusal_line why
 line_of stops.CannotWrite = codes "ketch: cannot write\n"
 line_of stops.OutOfMemory = codes "ketch: out of memory\n"

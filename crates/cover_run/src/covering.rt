@@ -12,7 +12,7 @@ ghost use Rattle.cover_run.specs.Words.{Cover as CoverCommand};
 
 use crate::command::Cover;
 use crate::composing::compose;
-use crate::first_forms::{FormFault, read_circuit, read_signals};
+use crate::first_forms::{FormFault, read_circuit};
 use crate::output::Output;
 use crate::part::read_part;
 use crate::stop::{File, Measure, Stop};
@@ -21,7 +21,9 @@ use aig_model::{Circuit, Signals};
 use ketch_base::OutOfMemory;
 use report_text::{Options, text_of};
 use run_io::Desk;
+use signal_list::{SigFault, read_signals};
 use std::alloc::Global;
+use text_words::lines_at_most_bytes;
 
 /// The circuit and the signals of a command.
 fn read_both<D: Desk>(
@@ -49,10 +51,11 @@ fn read_both<D: Desk>(
         Err(FormFault::OutOfMemory) => return Err(Stop::OutOfMemory),
     };
     let bytes = read_part(alloc, desk, File::Signals, call.signals)?;
+    lines_at_most_bytes(&bytes);
     match read_signals(alloc, &bytes, &circuit) {
         Ok(signals) => Ok((circuit, signals)),
-        Err(FormFault::NotBuilt) => Err(Stop::BadSignals),
-        Err(FormFault::OutOfMemory) => Err(Stop::OutOfMemory),
+        Err(SigFault::At { line, kind }) => Err(Stop::BadSignals { line, kind }),
+        Err(SigFault::OutOfMemory) => Err(Stop::OutOfMemory),
     }
 }
 

@@ -1,7 +1,7 @@
 //! The lines on the error stream. They take no memory.
 
 ghost use Rattle.std.specs.Prelude.{◌≡◌, ◌+◌, ◌<◌, ◌≤◌, ◌++◌, length, codes, decimal};
-ghost use Rattle.cover_run.specs.Stops.{file_word, measure_word, dimacs_word, lrat_word, proof_words, word_line, placed_text, placed_line, refusal_line, line_of};
+ghost use Rattle.cover_run.specs.Stops.{file_word, measure_word, sig_word, dimacs_word, lrat_word, proof_words, word_line, placed_text, placed_line, refusal_line, line_of};
 
 use crate::stop::{File, Measure, Refusal, Stop};
 use arrayvec::ArrayString;
@@ -9,6 +9,7 @@ use cnf_base::DimacsKind;
 use itoa::Buffer;
 use lrat_check::ProofKind;
 use lrat_text::LratKind;
+use signal_list::SigKind;
 
 /// A line, with room for the longest: two numbers of twenty digits and their words.
 pub(crate) type Line = ArrayString<96>;
@@ -57,6 +58,21 @@ fn lrat_word(kind: LratKind) -> &'static str
         LratKind::Number => "Number",
         LratKind::Form => "Form",
         LratKind::Truncated => "Truncated",
+    }
+}
+
+fn sig_word(kind: SigKind) -> &'static str
+    ensures word { result.now ≡ sig_word kind }
+    ensures short { length result.now ≤ 20 }
+{
+    match kind {
+        SigKind::Form => "Form",
+        SigKind::Range => "Range",
+        SigKind::NoName => "NoName",
+        SigKind::TwoNames => "TwoNames",
+        SigKind::Repeated => "Repeated",
+        SigKind::TooMany => "TooMany",
+        SigKind::Empty => "Empty",
     }
 }
 
@@ -174,7 +190,9 @@ pub(crate) fn line_of(stop: Stop) -> Line
         Stop::TooLong(file) => word_line("ketch: limit: ", file_word(file)),
         Stop::TooLarge(measure) => word_line("ketch: limit: ", measure_word(measure)),
         Stop::BadCircuit => line_from("ketch: circuit at 0: NotBuilt\n"),
-        Stop::BadSignals => line_from("ketch: signals line 0: NotBuilt\n"),
+        Stop::BadSignals { line, kind } => {
+            placed_line("ketch: signals line ", line.into(), sig_word(kind))
+        }
         Stop::Refused(why) => refusal_line(why),
         Stop::CannotWrite => line_from("ketch: cannot write\n"),
         Stop::OutOfMemory => line_from("ketch: out of memory\n"),

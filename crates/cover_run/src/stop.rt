@@ -8,6 +8,7 @@ use cnf_base::DimacsKind;
 use ketch_base::OutOfMemory;
 use lrat_check::ProofKind;
 use lrat_text::LratKind;
+use signal_list::SigKind;
 
 /// A file that a command reads.
 #[derive(Clone, Copy, Debug, PartialEq, Eq)]
@@ -45,7 +46,8 @@ pub enum Stop {
     TooLong(File),
     TooLarge(Measure),
     BadCircuit,
-    BadSignals,
+    /// Lines count from 1; a list without a signal is seen at line 0.
+    BadSignals { line: u32, kind: SigKind },
     Refused(Refusal),
     CannotWrite,
     OutOfMemory,
@@ -95,7 +97,7 @@ pub(crate) fn status_of(stop: Stop) -> Status
         Stop::Unreadable(_) => Status::ReadFault,
         Stop::TooLong(_) | Stop::TooLarge(_) => Status::Limit,
         Stop::BadCircuit => Status::BadCircuit,
-        Stop::BadSignals => Status::BadSignals,
+        Stop::BadSignals { line: _, kind: _ } => Status::BadSignals,
         Stop::Refused(_) => Status::Refused,
         Stop::CannotWrite => Status::WriteFault,
         Stop::OutOfMemory => Status::WantOfMemory,

@@ -18,15 +18,26 @@ const RING_REPORT: &[u8] =
 const FREE_REPORT: &[u8] =
     b"ketch 1\nsize 0 1 1\noptions 0 0 1000 100 4 1 20000 0 0 0\nhistory 1\n0 0 0 r zero 0\nseeds 0\ninvs 0\ngoals 2\ngoal 0 reached 0\n1\nb0\n0\n\n.\ngoal 1 open depth none hops strength none\nspents 0\nrefutes 0\nend 1 0 1\n";
 
+/// The signal is the negated latch, so the walk begins with goal 1.
+const NEGATED_REPORT: &[u8] =
+    b"ketch 1\nsize 0 1 1\noptions 0 0 1000 100 4 1 20000 0 0 0\nhistory 2\n0 0 1 r zero 0\n1 0 0 r zero 1\nseeds 0\ninvs 0\ngoals 2\ngoal 0 reached 1\n1\nb0\n0\n\n\n.\ngoal 1 reached 0\n1\nb1\n0\n\n.\nspents 0\nrefutes 0\nend 2 0 0\n";
+
 #[test]
 fn reports(rt: HostRuntime) -> Result<(), Fail> {
-    let rows: [(&str, &[u8], &[u8], Status, &[u8]); 3] = [
+    let rows: [(&str, &[u8], &[u8], Status, &[u8]); 4] = [
         (
             "the toggle",
             TOGGLE,
             b"l0\n",
             Status::Settled,
             TOGGLE_REPORT,
+        ),
+        (
+            "a negated output",
+            TOGGLE,
+            b"# the second output\n o1 ",
+            Status::Settled,
+            NEGATED_REPORT,
         ),
         ("the ring", RING, b"l0\nl1\n", Status::Open, RING_REPORT),
         (
@@ -49,20 +60,48 @@ fn reports(rt: HostRuntime) -> Result<(), Fail> {
 #[test]
 fn refusals(rt: HostRuntime) -> Result<(), Fail> {
     let long = vec![in rt.alloc(); b'#'; 65537]?;
-    let rows: [(&str, &[u8], &[u8], Status, &[u8]); 5] = [
+    let rows: [(&str, &[u8], &[u8], Status, &[u8]); 9] = [
         (
-            "no latch, input or output",
+            "no signal",
             b"aag 0 0 0 0 0\n",
-            b"",
+            b"# none\n\n",
             Status::BadSignals,
-            b"ketch: signals line 0: NotBuilt\n",
+            b"ketch: signals line 0: Empty\n",
         ),
         (
             "a signal that isn't there",
             b"aag 0 0 0 0 0\n",
             b"l0",
             Status::BadSignals,
-            b"ketch: signals line 0: NotBuilt\n",
+            b"ketch: signals line 1: Range\n",
+        ),
+        (
+            "a line of no form",
+            TOGGLE,
+            b"l0\nx\n",
+            Status::BadSignals,
+            b"ketch: signals line 2: Form\n",
+        ),
+        (
+            "a literal that stands twice",
+            TOGGLE,
+            b"l0\n\n n2 \n",
+            Status::BadSignals,
+            b"ketch: signals line 3: Repeated\n",
+        ),
+        (
+            "a name that nobody has",
+            TOGGLE,
+            b"@state",
+            Status::BadSignals,
+            b"ketch: signals line 1: NoName\n",
+        ),
+        (
+            "an eleventh signal",
+            b"aag 11 0 11 0 0\n2 0\n4 0\n6 0\n8 0\n10 0\n12 0\n14 0\n16 0\n18 0\n20 0\n22 0\n",
+            b"l0\nl1\nl2\nl3\nl4\nl5\nl6\nl7\nl8\nl9\nl10\n",
+            Status::BadSignals,
+            b"ketch: signals line 11: TooMany\n",
         ),
         (
             "a fifth number that isn't 0",
