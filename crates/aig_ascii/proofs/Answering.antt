@@ -5,21 +5,21 @@ use Rattle.std.proofs.lemmas.List.{get_or-map, length-map}
 use Rattle.aig_model.specs.WellFormed.{left_sides}
 use Rattle.aig_model.specs.declared.parts.AndGate.{AndGate}
 use Rattle.aig_model.specs.declared.parts.Parts.{Parts}
-use Rattle.aig_ascii.specs.GateOrder.{DefineApart, IsGateOrder, IsCycle}
+use Rattle.gate_order.specs.GateOrder.{DefineApart, IsGateOrder, IsCycle}
 use Rattle.aig_ascii.specs.Text.{Rest, next_line, lines_of, after_lines}
 use Rattle.aig_ascii.specs.Demands.{Demand, never, AllMet, IsFirstUnmet}
 use Rattle.aig_ascii.specs.Sections.{number_at, gate_of, latch_of}
 use Rattle.aig_ascii.specs.Aag.{whole, layout_of, parts_in, demands, SpellsCircuit, HasCycle, IsFirstFault, IsFault, Answers}
 use Rattle.aig_ascii.specs.ReadSections.{lines_before, IsGatePlace, IsOrderFault}
-use Rattle.aig_ascii.specs.declared.order.fault.OrderFault.{OrderFault}
-use Rattle.aig_ascii.specs.declared.order.fault.OrderFault.TheVariants as orders
+use Rattle.gate_order.specs.declared.order.fault.OrderFault.{OrderFault}
+use Rattle.gate_order.specs.declared.order.fault.OrderFault.TheVariants as orders
 use Rattle.aig_ascii.specs.Reading.{first_unmet, Fails}
 use Rattle.aig_ascii.specs.declared.fault.AagKind.{AagKind}
 use Rattle.aig_ascii.specs.declared.fault.AagKind.TheVariants.{Cycle}
 use Rattle.aig_ascii.specs.declared.fault.AagFault.{AagFault}
 use Rattle.aig_ascii.specs.declared.fault.AagFault.TheVariants as faults
-use Rattle.aig_ascii.proofs.Depends.{depends_inside, order_or_cycle, one_cycle}
-use Rattle.aig_ascii.proofs.OrderedGates.{one_order}
+use Rattle.gate_order.proofs.Depends.{depends_inside, order_or_cycle, one_cycle}
+use Rattle.gate_order.proofs.OrderedGates.{one_order}
 use Rattle.aig_ascii.proofs.RightParts.{length-lines, length-items, text-apart}
 use Rattle.aig_ascii.proofs.RightSections.{left_sides-lines}
 use Rattle.aig_ascii.proofs.Unmet.{Unmet, first_unmet-behind}

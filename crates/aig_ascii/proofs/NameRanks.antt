@@ -13,7 +13,7 @@ use Rattle.aig_model.specs.WellFormed.{IsSized, Exists, IsCircuit}
 use Rattle.aig_ascii.specs.declared.writing.names.Ranked.{Ranked}
 use Rattle.aig_ascii.specs.CircuitText.{section_of, position_of, Precedes, AreInOrder}
 use Rattle.aig_ascii.specs.NameOrder.{rank_of, HaveOwnPlaces, name_at, no_name, no_rank, AreRanks, names_by}
-use Rattle.aig_ascii.proofs.Times.{apart-permutation}
+use Rattle.gate_order.proofs.Times.{apart-permutation}
 
 -- ---- ranks of places
 one_place_of : (p q : Place) → section_of p ≡ section_of q → position_of p ≡ position_of q → p ≡ q

@@ -11,9 +11,9 @@ use Rattle.aig_model.specs.declared.parts.Parts.{Parts}
 use Rattle.aig_model.specs.declared.parts.Place.{Place}
 use Rattle.aig_model.specs.declared.parts.Place.TheVariants as places
 use Rattle.aig_model.specs.declared.parts.Named.{Named}
-use Rattle.aig_ascii.specs.GateOrder.{DefineApart}
-use Rattle.aig_ascii.specs.OrderLaws.{IsUnordered}
-use Rattle.aig_ascii.proofs.OrderedGates.{apart_from_defined}
+use Rattle.gate_order.specs.GateOrder.{DefineApart}
+use Rattle.gate_order.specs.OrderLaws.{IsUnordered}
+use Rattle.gate_order.proofs.OrderedGates.{apart_from_defined}
 use Rattle.aig_ascii.specs.Text.{Rest, number, lines_of, all_lines}
 use Rattle.aig_ascii.specs.Header.{AreFew, header_demands}
 use Rattle.aig_ascii.specs.Sections.{Form, input, latch, plain, gate, number_at, is_known, section_demands, section_uses, use_demands, latch_of, gate_of, lits_of}

@@ -1,13 +1,11 @@
 -- The header of a text that was written.
 use Rattle.std.proofs.Common.{◌≡◌, ◌≢◌, ℕ, zero, suc, inl, inr, ◌+◌, ◌<◌, ◌≤◌, Bool, true, false, cond, IsTrue, nat_eq, nat_le, codes, List, [], ◌∷◌, ◌++◌, length, get_or, refl, sym, ap, ◌∙◌, subst, arith, All, length-append}
-use Rattle.std.specs.List.{remove}
 use Rattle.std.proofs.lemmas.Bool.{cases_eq}
 use Rattle.std.proofs.lemmas.Bool.Decides.{nat_tests}
 use Rattle.std.proofs.lemmas.List.{length-map}
-use Rattle.std.proofs.lemmas.List.Elements.{All-from_get_or, All-tail, All-weaker, All-map, All-cons, All-nil, All-head, All-append, Contains-get_or}
+use Rattle.std.proofs.lemmas.List.Elements.{All-tail, All-weaker, All-map, All-cons, All-nil, All-head, All-append}
 use Rattle.aig_model.proofs.Elements.{All-left, All-right}
-use Rattle.std.proofs.lemmas.List.Sorted.{IsPermutation-remove, All-permutation, length_permutation}
-use Rattle.aig_model.specs.Literal.{var, number as bit}
+use Rattle.aig_model.specs.Literal.{var}
 use Rattle.aig_model.specs.WellFormed.{limit, latch_lits, left_sides, definers, defined, latch_literals, gate_literals, IsInRange, IsDefining, IsCircuit}
 use Rattle.aig_model.specs.declared.parts.Latch.{Latch}
 use Rattle.aig_model.specs.declared.parts.AndGate.{AndGate}
@@ -19,37 +17,9 @@ use Rattle.aig_ascii.specs.Header.{header_fields, sizes_in, within_limit, no_liv
 use Rattle.aig_ascii.specs.Aag.{fits}
 use Rattle.aig_ascii.specs.declared.header.Sizes.{Sizes}
 use Rattle.aig_ascii.specs.CircuitText.{last_sizes, header_numbers}
-use Rattle.aig_ascii.specs.PlaceOrder.{times}
-use Rattle.aig_ascii.proofs.Times.{times-cons, times-permutation, times-from_apart, times-from_Contains, Contains-from_times, All-times, equal_number}
+use Rattle.gate_order.specs.PlaceOrder.{times}
+use Rattle.gate_order.proofs.Times.{times-cons, times-from_apart, All-times, equal_number, few_below}
 use Rattle.aig_ascii.proofs.SpelledLines.{Spell, AreSmall, Fit, tail_of, behind-spell, numbers-are, wants-fit, none-fit, met-append}
-
--- ---- how many numbers below a bound there are
-below_strict : (m : ℕ) (xs : List ℕ) → All (λ x. x < suc m) xs → times m xs ≡ 0 → All (λ x. x < m) xs
-below_strict m xs all absent =
-    All-from_get_or (λ x. x < m) xs 0
-    (λ i h.
-    let low : get_or xs i 0 < suc m = all i 0 h in
-    let found : 0 < times (get_or xs i 0) xs = times-from_Contains (get_or xs i 0) xs (Contains-get_or xs i 0 h) in
-    let other : get_or xs i 0 ≢ m = λ e. absurd (omega (arith, absent, subst (λ (n : ℕ). 0 < times n xs) e found)) in
-    omega (arith, low, other))
-
-few_below : (m : ℕ) (xs : List ℕ) → ((n : ℕ) → times n xs ≤ 1) → All (λ x. x < m) xs → length xs ≤ m
-few_below zero [] once all = omega arith
-few_below zero (x ∷ xs) once all = absurd (omega (arith, all 0 0 (omega arith)))
-few_below (suc m) xs once all =
-    elim (cases_eq (times m xs) 0) [
-      | inl absent ↦ omega (arith, few_below m xs once (below_strict m xs all absent))
-      | inr some ↦
-          let found = Contains-from_times m xs (omega (arith, some)) in
-          let ys = remove xs found.0 in
-          let moved = IsPermutation-remove xs found.0 m found.1 (sym found.2) in
-          let times_rest = λ (n : ℕ). sym (times-permutation n xs (m ∷ ys) moved) ∙ times-cons n m ys in
-          let once_rest : (n : ℕ) → times n ys ≤ 1 = λ n. omega (arith, once n, times_rest n) in
-          let same : bit (nat_eq m m) ≡ 1 = elim (equal_number m m) [ inl e ↦ e.1 | inr ne ↦ absurd (ne.0 refl) ] in
-          let absent : times m ys ≡ 0 = omega (arith, once m, times_rest m, same) in
-          let below : All (λ x. x < suc m) ys = All-tail (λ x. x < suc m) m ys (All-permutation (λ x. x < suc m) xs (m ∷ ys) moved all) in
-          omega (arith, few_below m ys once_rest (below_strict m ys below absent), length_permutation xs (m ∷ ys) moved)
-    ]
 
 -- the literals that define are among the literals
 lits-among : (P : ℕ → Type 0) (latches : List Latch) → All P (latch_literals latches) → All P (latch_lits latches)

@@ -10,7 +10,7 @@ use Rattle.aig_model.specs.declared.parts.Place.{Place}
 use Rattle.aig_model.specs.declared.parts.Place.TheVariants.{Input, Latch as InLatch, Output, Bad, Constraint}
 use Rattle.aig_model.specs.declared.parts.Named.{Named}
 use Rattle.aig_model.specs.declared.parts.Parts.{Parts}
-use Rattle.aig_ascii.specs.GateOrder.{IsGateOrder}
+use Rattle.gate_order.specs.GateOrder.{IsGateOrder}
 use Rattle.aig_ascii.specs.Text.{Rest, next_line, all_lines}
 use Rattle.aig_ascii.specs.Demands.{Demand, AllMet}
 use Rattle.aig_ascii.specs.Header.{sizes_of, header_demands}
@@ -25,6 +25,8 @@ use Rattle.aig_ascii.proofs.SpelledHeader.{sizes_from, headed, small_numbers, si
 use Rattle.aig_ascii.proofs.SpelledBody.{layout, behind_sections, inputs_back, latches_back, outputs_back, bads_back, constraints_back, gates_back, body_met, uses_met}
 use Rattle.aig_ascii.proofs.SpelledSymbols.{SpellNames, names-spell, names-back, symbols-met, right-from_apart}
 use Rattle.aig_ascii.proofs.NameRanks.{position_inside}
+use Rattle.gate_order.proofs.OrderExists.{order_exists, acyclic_from_ordered}
+use Rattle.gate_order.proofs.OrderedGates.{apart_from_defined}
 
 -- ---- the circuit with its names in another order
 abbrev with_names : Parts → List Named → Parts
@@ -165,10 +167,13 @@ module _ (c : Parts) (is : IsCircuit c) where
   }
 
 pub reads_back : (c : Parts) (text : List ℕ) → IsCircuit c → IsTextOf c text → ReadsBack c text
-reads_back c bytes is of = record {
-  names = of.names;
-  ordered = of.ordered;
-  spells = λ gates order.
-      subst (λ (bs : List ℕ). SpellsCircuit bs (record c { gates = gates; names = of.names })) (sym of.is)
-      (spells (with_names c of.names) (circuit-again c of.names is of.ordered) gates order);
-}
+reads_back c bytes is of =
+    let found = order_exists c.gates (apart_from_defined c is.defining is.once) (acyclic_from_ordered c.gates is.ordered) in
+    record {
+      names = of.names;
+      ordered = of.ordered;
+      gates = found.ordered;
+      in_order = found.order;
+      spells = subst (λ (bs : List ℕ). SpellsCircuit bs (record c { gates = found.ordered; names = of.names })) (sym of.is)
+          (spells (with_names c of.names) (circuit-again c of.names is of.ordered) found.ordered found.order);
+    }

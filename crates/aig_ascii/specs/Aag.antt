@@ -3,7 +3,7 @@ use Rattle.std.specs.Prelude.{◌≡◌, ℕ, ◌+◌, Bool, nat_le, ◌⊎◌, 
 use Rattle.aig_model.specs.WellFormed.{definers}
 use Rattle.aig_model.specs.declared.parts.AndGate.{AndGate}
 use Rattle.aig_model.specs.declared.parts.Parts.{Parts}
-use Rattle.aig_ascii.specs.GateOrder.{IsGateOrder, IsCycle}
+use Rattle.gate_order.specs.GateOrder.{IsGateOrder, IsCycle}
 use Rattle.aig_ascii.specs.Text.{Rest, next_line, lines_of, after_lines, all_lines}
 use Rattle.aig_ascii.specs.Demands.{Demand, AllMet, IsFirstUnmet}
 use Rattle.aig_ascii.specs.Header.{sizes_of, header_demands}

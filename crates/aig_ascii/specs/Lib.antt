@@ -3,17 +3,12 @@ pub mod CircuitText
 pub mod Demands
 pub mod Drafts
 pub mod Fields
-pub mod GateOrder
 pub mod Header
 pub mod NameOrder
-pub mod OrderLaws
-pub mod PlaceOrder
 pub mod ReadSections
 pub mod Reading
 pub mod RoundTrip
 pub mod Sections
-pub mod SortedGates
 pub mod SymbolTables
 pub mod Symbols
 pub mod Text
-pub mod UserLists

@@ -9,8 +9,8 @@ use Rattle.aig_ascii.specs.Symbols.{symbol_lines, symbol_demands}
 use Rattle.aig_ascii.specs.Drafts.{definers_of, use_of, StandFor}
 use Rattle.aig_ascii.specs.Aag.{whole, Layout, parts_in, uses_in, body_demands}
 use Rattle.aig_ascii.specs.declared.reading.Sections.{Sections}
-use Rattle.aig_ascii.specs.declared.order.fault.OrderFault.{OrderFault}
-use Rattle.aig_ascii.specs.declared.order.fault.OrderFault.TheVariants as orders
+use Rattle.gate_order.specs.declared.order.fault.OrderFault.{OrderFault}
+use Rattle.gate_order.specs.declared.order.fault.OrderFault.TheVariants as orders
 use Rattle.aig_ascii.specs.declared.fault.AagFault.{AagFault}
 use Rattle.aig_ascii.specs.declared.fault.AagFault.TheVariants as faults
 use Rattle.aig_ascii.specs.declared.fault.AagKind.TheVariants.{Cycle}

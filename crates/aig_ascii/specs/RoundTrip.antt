@@ -3,7 +3,7 @@ use Rattle.std.specs.Prelude.{ℕ, List}
 use Rattle.aig_model.specs.declared.parts.AndGate.{AndGate}
 use Rattle.aig_model.specs.declared.parts.Named.{Named}
 use Rattle.aig_model.specs.declared.parts.Parts.{Parts}
-use Rattle.aig_ascii.specs.GateOrder.{IsGateOrder}
+use Rattle.gate_order.specs.GateOrder.{IsGateOrder}
 use Rattle.aig_ascii.specs.Aag.{SpellsCircuit}
 use Rattle.aig_ascii.specs.CircuitText.{AreInOrder}
 
@@ -11,4 +11,6 @@ use Rattle.aig_ascii.specs.CircuitText.{AreInOrder}
 pub record ReadsBack (c : Parts) (text : List ℕ) : Type 0 where
   pub names : List Named
   pub ordered : AreInOrder c.names names
-  pub spells : (gates : List AndGate) → IsGateOrder c.gates gates → SpellsCircuit text (record c { gates = gates; names = names })
+  pub gates : List AndGate
+  pub in_order : IsGateOrder c.gates gates
+  pub spells : SpellsCircuit text (record c { gates = gates; names = names })

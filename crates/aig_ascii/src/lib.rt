@@ -8,7 +8,6 @@ mod fault;
 mod fields;
 mod header;
 mod law;
-mod order;
 mod reading;
 mod sections;
 mod symbols;
@@ -17,9 +16,7 @@ mod tests;
 mod writing;
 
 pub use fault::{AagFault, AagKind};
+pub use gate_order::{OrderFault, order_gates};
 pub use law::each_text_is_read_one_way;
-pub use order::fault::OrderFault;
-pub use order::laws::{one_cycle, one_gate_order, order_or_cycle, ordered_circuit};
-pub use order::order_gates;
 pub use reading::read_aag;
 pub use writing::write_aag;

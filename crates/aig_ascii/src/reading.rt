@@ -8,8 +8,8 @@ ghost use Rattle.aig_ascii.specs.Header.{AreFew};
 ghost use Rattle.aig_ascii.specs.Sections.{use_demands};
 ghost use Rattle.aig_ascii.specs.Symbols.{symbol_lines, symbol_demands};
 ghost use Rattle.aig_ascii.specs.Aag.{whole, layout_from, layout_of, parts_in, uses_in, body_demands, demands, SpellsCircuit, IsFirstFault, IsFault, Answers};
-ghost use Rattle.aig_ascii.specs.GateOrder.{IsGateOrder};
-ghost use Rattle.aig_ascii.specs.OrderLaws.{IsUnordered};
+ghost use Rattle.gate_order.specs.GateOrder.{IsGateOrder};
+ghost use Rattle.gate_order.specs.OrderLaws.{IsUnordered};
 ghost use Rattle.aig_ascii.specs.ReadSections.{IsSections, behind_header, lines_before, IsGatePlace, IsOrderFault};
 ghost use Rattle.aig_ascii.specs.Reading.{first_unmet, Says};
 ghost use Rattle.aig_ascii.specs.declared.fault.AagKind.{AagKind};
@@ -18,11 +18,10 @@ use crate::cursor::Cursor;
 use crate::draft::Draft;
 use crate::fault::{AagFault, AagKind};
 use crate::header::{Sizes, read_header};
-use crate::order::fault::OrderFault;
-use crate::order::order_gates;
 use crate::sections::{read_gates, read_inputs, read_latches, read_lits};
 use crate::symbols::read_symbols;
 use aig_model::{Circuit, Gates, Lit, Lits, Names, Parts};
+use gate_order::{OrderFault, order_gates};
 use std::alloc::Global;
 
 /// What the lines of the sections spell.

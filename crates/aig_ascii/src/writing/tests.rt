@@ -3,7 +3,7 @@
 ghost use Rattle.std.specs.Prelude.{◌≡◌, [], IfOk};
 ghost use Rattle.aig_model.specs.WellFormed.{IsSized};
 
-use crate::write_aag;
+use crate::{read_aag, write_aag};
 use aig_model::{AndGate, Circuit, Gates, Latch, Latches, Lit, Lits, Names, Parts, Reset};
 use ketch_base::OutOfMemory;
 use std::alloc::Global;
@@ -145,5 +145,20 @@ fn circuits_are_written(rt: HostRuntime) -> Result<(), Fail> {
         let text = write_aag(rt.alloc(), &circuit)?;
         assert_eq!(rt; text.as_slice(), case.text.as_bytes());
     }
+    Ok(())
+}
+
+#[test]
+fn names_and_gates_are_put_in_order(rt: HostRuntime) -> Result<(), Fail> {
+    let text =
+        "aag 7 2 1 1 2 1 1\n2\n4\n6 13 6\n13\n7\n2\n12 8 3\n8 2 4\nc0 keep\nb0 \u{e9} x\ni1 b\nl0 a\ni0 b\no0 c\nc\nmade by hand\n";
+    let written =
+        "aag 7 2 1 1 2 1 1\n2\n4\n6 13 6\n13\n7\n2\n8 2 4\n12 8 3\ni0 b\ni1 b\nl0 a\no0 c\nb0 \u{e9} x\nc0 keep\n";
+    let circuit = read_aag(rt.alloc(), text.as_bytes())?;
+    let again = write_aag(rt.alloc(), &circuit)?;
+    assert_eq!(rt; again.as_slice(), written.as_bytes());
+    let circuit = read_aag(rt.alloc(), again.as_slice())?;
+    let once_more = write_aag(rt.alloc(), &circuit)?;
+    assert_eq!(rt; once_more.as_slice(), written.as_bytes());
     Ok(())
 }

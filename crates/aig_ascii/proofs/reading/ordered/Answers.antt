@@ -1,4 +1,4 @@
-use Rattle.aig_ascii.proofs.OrderedGates.{ordered_parts}
+use Rattle.gate_order.proofs.OrderedGates.{ordered_parts}
 use Rattle.aig_ascii.proofs.reading.ordered.Goals as goal
 
 pub new-requires : goal.new-requires

@@ -1,5 +1,0 @@
-use Rattle.aig_ascii.proofs.Depends.{order_or_cycle}
-use Rattle.aig_ascii.proofs.order.laws.order_or_cycle.Goals as goal
-
-pub returns : goal.returns
-returns c = order_or_cycle

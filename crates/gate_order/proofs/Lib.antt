@@ -1,0 +1,12 @@
+pub mod Answered
+pub mod Depends
+pub mod Gates
+pub mod Linked
+pub mod OrderExists
+pub mod OrderedGates
+pub mod PlacedGates
+pub mod Placing
+pub mod Queued
+pub mod Releasing
+pub mod Times
+pub mod Uses

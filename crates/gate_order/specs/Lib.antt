@@ -1,0 +1,5 @@
+pub mod GateOrder
+pub mod OrderLaws
+pub mod PlaceOrder
+pub mod SortedGates
+pub mod UserLists
