@@ -4,7 +4,7 @@ use super::*;
 use AagKind::{
     Cycle, Defined, Header, Limit, Liveness, Number, Range, Reset, Symbol, Truncated, Undefined,
 };
-use aig_model::{AndGate, Circuit, Latch, Lit, Place, Reset as Start};
+use aig_model::{AndGate, Circuit, Lit, Place, Reset as Start};
 use std::test::Fail;
 
 /// A text, and the place and kind of its first fault.
@@ -225,39 +225,41 @@ fn reads_enable_and_reset(rt: HostRuntime) -> Result<(), Fail> {
     Ok(())
 }
 
-#[test]
-fn reads_resets_and_names(rt: HostRuntime) -> Result<(), Fail> {
-    let text =
-        b"aag 004 0 3  1 0 1 1 0 000000000000000000000000000000 \r\n2 3\n4  0 1 \r\n6 6 0006\r\r\n7\n1\n0\n\
+const RESETS_AND_NAMES: &[u8] =
+    b"aag 004 0 3  1 0 1 1 0 000000000000000000000000000000 \r\n2 3\n4  0 1 \r\n6 6 0006\r\r\n7\n1\n0\n\
         o0 Q\n\r\nl2  two words \r\nl0 \xff\rx\nc0 c\nb0 b\nc\x00 l0 \xff\n\x80 anything\n  \n";
-    let circuit = read_aag(rt.alloc(), text)?;
-    assert_eq!(rt; lits(&circuit), [0, 3, 1, 1, 1, 5]);
-    let starts = [Start::Zero, Start::One, Start::Free];
-    for (latch, start) in circuit.latches().as_slice().iter().zip(starts.as_slice()) {
+
+const STARTS: [Start; 3] = [Start::Zero, Start::One, Start::Free];
+
+#[test]
+fn reads_resets(rt: HostRuntime) -> Result<(), Fail> {
+    let circuit = read_aag(rt.alloc(), RESETS_AND_NAMES)?;
+    for (latch, start) in circuit.latches().as_slice().iter().zip(STARTS.as_slice()) {
         assert_eq!(rt; latch.reset, *start);
     }
-    let free = circuit.latches().get(2);
-    let wanted = Latch {
-        lit: Lit::new(6),
-        next: Lit::new(6),
-        reset: Start::Free,
-    };
-    assert_eq!(rt; *free, wanted);
-    let names: [(Place, &[u8]); 5] = [
-        (Place::Output(0), b"Q"),
-        (Place::Latch(2), b" two words "),
-        (Place::Latch(0), b"\xff\rx"),
-        (Place::Constraint(0), b"c"),
-        (Place::Bad(0), b"b"),
-    ];
-    for (named, wanted) in circuit.names().as_slice().iter().zip(names.as_slice()) {
+    Ok(())
+}
+
+const NAMES: [(Place, &'static [u8]); 5] = [
+    (Place::Output(0), b"Q"),
+    (Place::Latch(2), b" two words "),
+    (Place::Latch(0), b"\xff\rx"),
+    (Place::Constraint(0), b"c"),
+    (Place::Bad(0), b"b"),
+];
+
+#[test]
+fn reads_names(rt: HostRuntime) -> Result<(), Fail> {
+    let circuit = read_aag(rt.alloc(), RESETS_AND_NAMES)?;
+    for (named, wanted) in circuit.names().as_slice().iter().zip(NAMES.as_slice()) {
         assert_eq!(rt; named.place, wanted.0);
         assert_eq!(rt; named.name.as_slice(), wanted.1);
     }
     Ok(())
 }
 
-const SHORT_TEXTS: [(&'static [u8], [usize; 6]); 12] = [
+const SHORT_TEXTS: [(&'static [u8], [usize; 6]); 13] = [
+    (RESETS_AND_NAMES, [0, 3, 1, 1, 1, 5]),
     (b"aag 0 0 0 0 0", [0, 0, 0, 0, 0, 0]),
     (b"aag 0 0 0 0 0 0 0 0 0\r", [0, 0, 0, 0, 0, 0]),
     (b"aag 1 0 1 2 0\n2 3\n2\n3\n", [0, 1, 2, 0, 0, 0]),

@@ -13,9 +13,12 @@ use Rattle.cover_run.specs.declared.stop.Stop.TheVariants as stops
 use Rattle.cover_run.specs.declared.stop.Status.{Status}
 use Rattle.cover_run.specs.declared.stop.Status.TheVariants as statuses
 use Rattle.cover_run.specs.Answer.{IsOutput, IsAnswer, Cause}
-use Rattle.cover_run.specs.Covering.{frames_of, walk_of, HasRoom, IsTooMuch, IsCircuitText, IsSignalsText, IsNoCircuit, HasSignalsFault, HasCircuit, HasSignals, HasSomeCircuit, RefusesCircuit, RefusesSignals, IsCoverOutput}
+use Rattle.cover_run.specs.Covering.{frames_of, walk_of, HasRoom, IsTooMuch, IsCircuitText, IsSignalsText, HasCircuitFault, HasSignalsFault, HasCircuit, HasSignals, HasSomeCircuit, RefusesCircuit, RefusesSignals, IsCoverOutput}
 use Rattle.cover_run.specs.Files.{limit_of, IsTooLong}
-use Rattle.cover_run.specs.FirstForms.{SpellsCircuit}
+use Rattle.aig_ascii.specs.Aag.{SpellsCircuit, IsFirstFault as IsFirstInCircuit, demands}
+use Rattle.aig_ascii.specs.declared.fault.AagKind.{AagKind}
+use Rattle.aig_ascii.proofs.RightParts.{text-apart}
+use Rattle.aig_ascii.proofs.Answering.{none-unmet, one-circuit, one-fault, no-fault}
 use Rattle.signal_list.specs.SignalText.{SpellsSignals, IsFirstFault as IsFirstInSignals}
 use Rattle.signal_list.specs.declared.fault.SigKind.{SigKind}
 use Rattle.signal_list.proofs.OneReading as signals_text
@@ -25,7 +28,6 @@ use Rattle.cover_run.specs.Seen.{DeskSeen, SinkSeen, HasFaulted, Failed, Took}
 use Rattle.cover_run.specs.Stops.{status_of, settled_status}
 use Rattle.cover_run.specs.Words.{CoverCall, Command, Cover}
 use Rattle.cover_run.proofs.WhereTold.{IfSome-at}
-use Rattle.cover_run.proofs.CircuitText.{one_circuit}
 use Rattle.cover_run.proofs.Promised.{told_long, settled_either, not_ended, stopped_so}
 use Rattle.cover_run.proofs.Stopped.{CoverStops, too_much, circuit_unreadable, circuit_long, bad_circuit, signals_unreadable, signals_long, bad_signals, not_written, memory, cover_stops}
 
@@ -39,11 +41,15 @@ stops_of command call d out stop e cause = cover_stops call d out stop (subst (�
 told_circuit : (call : CoverCall) (d : DeskSeen) (c : Parts) (t : List ℕ) → d.text call.circuit ≡ Some t → HasCircuit call d c → SpellsCircuit t c
 told_circuit call d c t told has = (IfSome-at (IsCircuitText c) (d.text call.circuit) t told has).spells
 
-told_none : (call : CoverCall) (d : DeskSeen) (t : List ℕ) → d.text call.circuit ≡ Some t → ((c : Parts) → ¬ SpellsCircuit t c) → HasSomeCircuit call d → ⊥
-told_none call d t told none some = none some.0 (told_circuit call d some.0 t told some.1)
+-- a text with a first fault spells no circuit
+told_none : (call : CoverCall) (d : DeskSeen) (t : List ℕ) (at : ℕ) (kind : AagKind) → d.text call.circuit ≡ Some t → IsFirstInCircuit t at kind → HasSomeCircuit call d → ⊥
+told_none call d t at kind told first some = no-fault t some.0 at kind (told_circuit call d some.0 t told some.1) first
 
-told_refused : (call : CoverCall) (d : DeskSeen) (t : List ℕ) (c : Parts) → d.text call.circuit ≡ Some t → SpellsCircuit t c → RefusesCircuit call d → ⊥
-told_refused call d t c told spells refused = (IfSome-at IsNoCircuit (d.text call.circuit) t told refused).none c spells
+told_refused : (call : CoverCall) (d : DeskSeen) (t : List ℕ) (c : Parts) (at : ℕ) (kind : AagKind) → d.text call.circuit ≡ Some t → SpellsCircuit t c → RefusesCircuit call d at kind → ⊥
+told_refused call d t c at kind told spells refused = no-fault t c at kind spells (IfSome-at (HasCircuitFault at kind) (d.text call.circuit) t told refused).first
+
+one_circuit : (t : List ℕ) (e c : Parts) → SpellsCircuit t e → SpellsCircuit t c → e ≡ c
+one_circuit t e c s = one-circuit t e c (text-apart t (none-unmet (demands t) s.right)) s
 
 same_told : (call : CoverCall) (d : DeskSeen) (t : List ℕ) (c e : Parts) → d.text call.circuit ≡ Some t → SpellsCircuit t c → HasCircuit call d e → e ≡ c
 same_told call d t c e told spells has = one_circuit t e c (told_circuit call d e t told has) spells
@@ -60,24 +66,27 @@ signals_fault call d t u c line kind told spells told_u (e, has, fault) =
     (IfSome-at (HasSignalsFault e line kind) (d.text call.signals) u told_u fault)
 
 -- ---- the refusals of the circuit come
-no_circuit_stops : (call : CoverCall) (d : DeskSeen) (out : SinkSeen) (stop : Stop) (t : List ℕ) → IsTold d files.Circuit call.circuit t → ((c : Parts) → ¬ SpellsCircuit t c)
-    → CoverStops call d out stop → (stop ≡ stops.BadCircuit) ⊎ (stop ≡ stops.OutOfMemory)
-no_circuit_stops call d out stop t told none (circuit_unreadable e h) = absurd (told.no_fault h)
-no_circuit_stops call d out stop t told none (circuit_long e h) = absurd (told_long d files.Circuit call.circuit t told.told told.short h)
-no_circuit_stops call d out stop t told none (bad_circuit e h) = inl e
-no_circuit_stops call d out stop t told none (signals_unreadable e has h) = absurd (told_none call d t told.told none has)
-no_circuit_stops call d out stop t told none (signals_long e has h) = absurd (told_none call d t told.told none has)
-no_circuit_stops call d out stop t told none (bad_signals line kind e h) = absurd (told_none call d t told.told none (h.0, h.1))
-no_circuit_stops call d out stop t told none (too_much m e c sig has has_signals h) = absurd (told_none call d t told.told none (c, has))
-no_circuit_stops call d out stop t told none (not_written e h bytes settled o) = absurd (told_none call d t told.told none (o.circuit, o.has_circuit))
-no_circuit_stops call d out stop t told none (memory e) = inr e
+bad_circuit_stops : (call : CoverCall) (d : DeskSeen) (out : SinkSeen) (stop : Stop) (t : List ℕ) (at : ℕ) (kind : AagKind) → IsTold d files.Circuit call.circuit t
+    → IsFirstInCircuit t at kind → CoverStops call d out stop → (stop ≡ stops.BadCircuit at kind) ⊎ (stop ≡ stops.OutOfMemory)
+bad_circuit_stops call d out stop t at kind told first (circuit_unreadable e h) = absurd (told.no_fault h)
+bad_circuit_stops call d out stop t at kind told first (circuit_long e h) = absurd (told_long d files.Circuit call.circuit t told.told told.short h)
+bad_circuit_stops call d out stop t at kind told first (bad_circuit m k e h) =
+    let same = one-fault t m at k kind (IfSome-at (HasCircuitFault m k) (d.text call.circuit) t told.told h).first first in
+    inl (e ∙ (ap (λ (x : ℕ). stops.BadCircuit x k) same.0 ∙ ap (λ (x : AagKind). stops.BadCircuit at x) same.1))
+bad_circuit_stops call d out stop t at kind told first (signals_unreadable e has h) = absurd (told_none call d t at kind told.told first has)
+bad_circuit_stops call d out stop t at kind told first (signals_long e has h) = absurd (told_none call d t at kind told.told first has)
+bad_circuit_stops call d out stop t at kind told first (bad_signals line k e h) = absurd (told_none call d t at kind told.told first (h.0, h.1))
+bad_circuit_stops call d out stop t at kind told first (too_much m e c sig has has_signals h) = absurd (told_none call d t at kind told.told first (c, has))
+bad_circuit_stops call d out stop t at kind told first (not_written e h bytes settled o) = absurd (told_none call d t at kind told.told first (o.circuit, o.has_circuit))
+bad_circuit_stops call d out stop t at kind told first (memory e) = inr e
 
 pub bad_circuit_comes : (command : Command) (d : DeskSeen) (out err : SinkSeen) (status : Status) → IsAnswer command d out err status → BadCircuitComes command d err status
-bad_circuit_comes command d out err status (inl w) call t e told none =
+bad_circuit_comes command d out err status (inl w) call t at kind e told first =
     let o = cover_output command call d w.whole.bytes w.settled e w.whole.output in
-    absurd (told_none call d t told.told none (o.circuit, o.has_circuit))
-bad_circuit_comes command d out err status (inr s) call t e told none =
-    stopped_so command d out err status stops.BadCircuit s (no_circuit_stops call d out s.stop t told none (stops_of command call d out s.stop e s.stopped.cause))
+    absurd (told_none call d t at kind told.told first (o.circuit, o.has_circuit))
+bad_circuit_comes command d out err status (inr s) call t at kind e told first =
+    stopped_so command d out err status (stops.BadCircuit at kind) s
+    (bad_circuit_stops call d out s.stop t at kind told first (stops_of command call d out s.stop e s.stopped.cause))
 
 too_long_none : (call : CoverCall) (d : DeskSeen) (t : List ℕ) (c : Parts) → IsToldTooLong d files.Circuit call.circuit t → HasCircuit call d c → ⊥
 too_long_none call d t c long has =
@@ -85,9 +94,9 @@ too_long_none call d t c long has =
     let past : limit_of files.Circuit < length t = long.long in
     omega arith
 
-too_long_refused : (call : CoverCall) (d : DeskSeen) (t : List ℕ) → IsToldTooLong d files.Circuit call.circuit t → RefusesCircuit call d → ⊥
-too_long_refused call d t long none =
-    let short : length t ≤ limit_of files.Circuit = (IfSome-at IsNoCircuit (d.text call.circuit) t long.told none).short in
+too_long_refused : (call : CoverCall) (d : DeskSeen) (t : List ℕ) (at : ℕ) (kind : AagKind) → IsToldTooLong d files.Circuit call.circuit t → RefusesCircuit call d at kind → ⊥
+too_long_refused call d t at kind long fault =
+    let short : length t ≤ limit_of files.Circuit = (IfSome-at (HasCircuitFault at kind) (d.text call.circuit) t long.told fault).short in
     let past : limit_of files.Circuit < length t = long.long in
     omega arith
 
@@ -95,7 +104,7 @@ long_circuit_stops : (call : CoverCall) (d : DeskSeen) (out : SinkSeen) (stop : 
     → (stop ≡ stops.TooLong files.Circuit) ⊎ (stop ≡ stops.OutOfMemory)
 long_circuit_stops call d out stop t long (circuit_unreadable e h) = absurd (long.no_fault h)
 long_circuit_stops call d out stop t long (circuit_long e h) = inl e
-long_circuit_stops call d out stop t long (bad_circuit e h) = absurd (too_long_refused call d t long h)
+long_circuit_stops call d out stop t long (bad_circuit at kind e h) = absurd (too_long_refused call d t at kind long h)
 long_circuit_stops call d out stop t long (signals_unreadable e has h) = absurd (too_long_none call d t has.0 long has.1)
 long_circuit_stops call d out stop t long (signals_long e has h) = absurd (too_long_none call d t has.0 long has.1)
 long_circuit_stops call d out stop t long (bad_signals line kind e h) = absurd (too_long_none call d t h.0 long h.1)
@@ -123,7 +132,7 @@ after_circuit : (call : CoverCall) (d : DeskSeen) (out : SinkSeen) (stop : Stop)
     → CoverStops call d out stop → SignalsStops call d out c stop
 after_circuit call d out stop t c told spells (circuit_unreadable e h) = absurd (told.no_fault h)
 after_circuit call d out stop t c told spells (circuit_long e h) = absurd (told_long d files.Circuit call.circuit t told.told told.short h)
-after_circuit call d out stop t c told spells (bad_circuit e h) = absurd (told_refused call d t c told.told spells h)
+after_circuit call d out stop t c told spells (bad_circuit at kind e h) = absurd (told_refused call d t c at kind told.told spells h)
 after_circuit call d out stop t c told spells (signals_unreadable e has h) = unreadable h
 after_circuit call d out stop t c told spells (signals_long e has h) = long e h
 after_circuit call d out stop t c told spells (bad_signals line kind e h) = refused line kind e h

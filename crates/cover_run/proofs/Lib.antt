@@ -1,17 +1,13 @@
-pub mod CircuitText
 pub mod CoverPromised
 pub mod Filled
 pub mod Formed
 pub mod Full
 pub mod LratPromised
 pub mod Marked
-pub mod PickedParts
-pub mod Picking
 pub mod Posted
 pub mod Promised
 pub mod Reading
 pub mod Shown
-pub mod Spelled
 pub mod Stopped
 pub mod Told
 pub mod Visited

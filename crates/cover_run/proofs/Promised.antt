@@ -2,6 +2,7 @@
 use Rattle.std.proofs.Common.{◌≡◌, ◌↔◌, ℕ, ◌<◌, ◌≤◌, Bool, true, false, List, length, Some, inl, inr, refl, sym, ◌∙◌, ap, subst, arith}
 use Rattle.std.specs.Prelude.{◌⊎◌, IsSomeAnd}
 use Rattle.std.proofs.lemmas.Option.{none-some}
+use Rattle.aig_ascii.specs.declared.fault.AagKind.{AagKind}
 use Rattle.signal_list.specs.declared.fault.SigKind.{SigKind}
 use Rattle.cover_run.specs.declared.stop.File.{File}
 use Rattle.cover_run.specs.declared.stop.Measure.{Measure}
@@ -35,7 +36,7 @@ not_ended stops.Usage status e ended = elim ended [ inl h ↦ cc | inr h ↦ cc 
 not_ended (stops.Unreadable f) status e ended = elim ended [ inl h ↦ cc | inr h ↦ cc ]
 not_ended (stops.TooLong f) status e ended = elim ended [ inl h ↦ cc | inr h ↦ cc ]
 not_ended (stops.TooLarge m) status e ended = elim ended [ inl h ↦ cc | inr h ↦ cc ]
-not_ended stops.BadCircuit status e ended = elim ended [ inl h ↦ cc | inr h ↦ cc ]
+not_ended (stops.BadCircuit at kind) status e ended = elim ended [ inl h ↦ cc | inr h ↦ cc ]
 not_ended (stops.BadSignals line kind) status e ended = elim ended [ inl h ↦ cc | inr h ↦ cc ]
 not_ended (stops.Refused why) status e ended = elim ended [ inl h ↦ cc | inr h ↦ cc ]
 not_ended stops.CannotWrite status e ended = elim ended [ inl h ↦ cc | inr h ↦ cc ]
@@ -47,7 +48,7 @@ Says command d out err statuses.Settled = ⊥
 Says command d out err statuses.Open = ⊥
 Says command d out err statuses.Usage = command ≡ Usage
 Says command d out err statuses.ReadFault = (f : File) × IsSomeAnd (name_of command f) (HasFaulted d) × TookWhatItCould err (line_of (stops.Unreadable f))
-Says command d out err statuses.BadCircuit = HasBadCircuit command d
+Says command d out err statuses.BadCircuit = (at : ℕ) × (kind : AagKind) × HasBadCircuit command d at kind × TookWhatItCould err (line_of (stops.BadCircuit at kind))
 Says command d out err statuses.BadSignals = (line : ℕ) × (kind : SigKind) × HasBadSignals command d line kind × TookWhatItCould err (line_of (stops.BadSignals line kind))
 Says command d out err statuses.Limit =
     ((f : File) × IsSomeAnd (name_of command f) (IsTooLong d f) × TookWhatItCould err (line_of (stops.TooLong f)))
@@ -61,7 +62,7 @@ says command d out err stops.Usage cause said = cause
 says command d out err (stops.Unreadable f) cause said = (f, cause.1, said)
 says command d out err (stops.TooLong f) cause said = inl (f, cause.1, said)
 says command d out err (stops.TooLarge m) cause said = inr (m, cause, said)
-says command d out err stops.BadCircuit cause said = cause
+says command d out err (stops.BadCircuit at kind) cause said = (at, kind, cause, said)
 says command d out err (stops.BadSignals line kind) cause said = (line, kind, cause, said)
 says command d out err (stops.Refused why) cause said = (why, cause, said)
 says command d out err stops.CannotWrite cause said = cause.0
@@ -79,8 +80,8 @@ none_ended stop ended = not_ended stop (status_of stop) refl ended
 pub read_fault : (command : Command) (d : DeskSeen) (out err : SinkSeen) (status : Status) → IsAnswer command d out err status → ReadFaultCause command d err status
 read_fault command d out err status a e = meant command d out err status statuses.ReadFault a e (λ h. elim h [ inl i ↦ cc | inr i ↦ cc ])
 
-pub bad_circuit : (command : Command) (d : DeskSeen) (out err : SinkSeen) (status : Status) → IsAnswer command d out err status → BadCircuitCause command d status
-bad_circuit command d out err status a e = meant command d out err status statuses.BadCircuit a e (none_ended stops.BadCircuit)
+pub bad_circuit : (command : Command) (d : DeskSeen) (out err : SinkSeen) (status : Status) → IsAnswer command d out err status → BadCircuitCause command d err status
+bad_circuit command d out err status a e = meant command d out err status statuses.BadCircuit a e (λ h. elim h [ inl i ↦ cc | inr i ↦ cc ])
 
 pub bad_signals : (command : Command) (d : DeskSeen) (out err : SinkSeen) (status : Status) → IsAnswer command d out err status → BadSignalsCause command d err status
 bad_signals command d out err status a e = meant command d out err status statuses.BadSignals a e (λ h. elim h [ inl i ↦ cc | inr i ↦ cc ])
@@ -101,7 +102,7 @@ used command d out stops.Usage cause e = refl
 used command d out (stops.Unreadable f) cause e = absurd (let none = subst (λ (x : Command). Cause x d out (stops.Unreadable f)) e cause in none.0)
 used command d out (stops.TooLong f) cause e = absurd (let none = subst (λ (x : Command). Cause x d out (stops.TooLong f)) e cause in none.0)
 used command d out (stops.TooLarge m) cause e = absurd (subst (λ (x : Command). Cause x d out (stops.TooLarge m)) e cause)
-used command d out stops.BadCircuit cause e = absurd (subst (λ (x : Command). Cause x d out stops.BadCircuit) e cause)
+used command d out (stops.BadCircuit at kind) cause e = absurd (subst (λ (x : Command). Cause x d out (stops.BadCircuit at kind)) e cause)
 used command d out (stops.BadSignals line kind) cause e = absurd (subst (λ (x : Command). Cause x d out (stops.BadSignals line kind)) e cause)
 used command d out (stops.Refused why) cause e = absurd (subst (λ (x : Command). Cause x d out (stops.Refused why)) e cause)
 used command d out stops.CannotWrite cause e = absurd (let none = subst (λ (x : Command). Cause x d out stops.CannotWrite) e cause in none.1.2)
@@ -122,7 +123,7 @@ unless_too_long stops.Usage P h other = h
 unless_too_long (stops.Unreadable f) P h other = h
 unless_too_long (stops.TooLong f) P h other = absurd (other refl)
 unless_too_long (stops.TooLarge m) P h other = h
-unless_too_long stops.BadCircuit P h other = h
+unless_too_long (stops.BadCircuit at kind) P h other = h
 unless_too_long (stops.BadSignals line kind) P h other = h
 unless_too_long (stops.Refused why) P h other = h
 unless_too_long stops.CannotWrite P h other = h

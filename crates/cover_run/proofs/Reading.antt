@@ -1,6 +1,6 @@
 -- How the files of a command are read.
-use Rattle.std.proofs.Common.{◌≡◌, ℕ, ◌≤◌, List, length, Option, Some, IfSome, inl, inr, sym, ◌∙◌, subst, arith}
-use Rattle.std.specs.Prelude.{IsSomeAnd}
+use Rattle.std.proofs.Common.{◌≡◌, ℕ, ◌+◌, ◌-◌, ◌^◌, ◌<◌, ◌≤◌, List, length, Option, Some, IfSome, inl, inr, sym, ◌∙◌, subst, arith}
+use Rattle.std.specs.Prelude.{IsSomeAnd, ◌≢◌, min}
 use Rattle.cnf_base.specs.Dimacs.{IsFirstFault as IsFirstInFormula}
 use Rattle.cnf_base.specs.declared.fault.DimacsKind.{DimacsKind}
 use Rattle.cnf_base.specs.declared.fault.DimacsKind.TheVariants as dimacs
@@ -10,13 +10,16 @@ use Rattle.cover_run.specs.declared.stop.Measure.TheVariants as measures
 use Rattle.cover_run.specs.declared.stop.Refusal.TheVariants as refusals
 use Rattle.cover_run.specs.declared.stop.Stop.{Stop}
 use Rattle.cover_run.specs.declared.stop.Stop.TheVariants as stops
-use Rattle.cover_run.specs.Answer.{EarlyCause}
+use Rattle.cover_run.specs.Answer.{EarlyCause, IsReached}
 use Rattle.cover_run.specs.Checking.{HasFormulaFault}
-use Rattle.cover_run.specs.Files.{name_of, limit_of, IsRead, IsWithin}
-use Rattle.cover_run.specs.Seen.{DeskSeen}
-use Rattle.cover_run.specs.Steps.{IsLeftOrRead, FormulaCause}
+use Rattle.aig_model.specs.declared.parts.Parts.{Parts}
+use Rattle.signal_list.specs.SignalText.{IsFirstFault as IsFirstInSignals}
+use Rattle.cover_run.specs.Covering.{HasCircuit, HasCircuitFault, HasSignalsFault}
+use Rattle.cover_run.specs.Files.{name_of, limit_of, IsRead, IsWithin, IsTooLong}
+use Rattle.cover_run.specs.Seen.{DeskSeen, HasFaulted}
+use Rattle.cover_run.specs.Steps.{IsLeftOrRead, PartCause, FormulaCause, CircuitCause, SignalsCause}
 use Rattle.cover_run.specs.Stops.{UnlessTooLong}
-use Rattle.cover_run.specs.Words.{LratCall, Command, Lrat}
+use Rattle.cover_run.specs.Words.{CoverCall, LratCall, Command, Usage, Cover, Lrat}
 use Rattle.cover_run.proofs.WhereTold.{IfSome-map}
 
 -- ---- what holds unless the file is too long
@@ -25,7 +28,7 @@ unless-of stops.Usage P h = h
 unless-of (stops.Unreadable f) P h = h
 unless-of (stops.TooLong f) P h = tt
 unless-of (stops.TooLarge m) P h = h
-unless-of stops.BadCircuit P h = h
+unless-of (stops.BadCircuit at kind) P h = h
 unless-of (stops.BadSignals line kind) P h = h
 unless-of (stops.Refused why) P h = h
 unless-of stops.CannotWrite P h = h
@@ -36,7 +39,7 @@ unless-map stops.Usage P Q f h = f h
 unless-map (stops.Unreadable x) P Q f h = f h
 unless-map (stops.TooLong x) P Q f h = tt
 unless-map (stops.TooLarge m) P Q f h = f h
-unless-map stops.BadCircuit P Q f h = f h
+unless-map (stops.BadCircuit at kind) P Q f h = f h
 unless-map (stops.BadSignals line kind) P Q f h = f h
 unless-map (stops.Refused why) P Q f h = f h
 unless-map stops.CannotWrite P Q f h = f h
@@ -85,7 +88,7 @@ formula_refused call d bytes read (stops.TooLarge measures.Formula) is short tol
 )
 formula_refused call d bytes read (stops.TooLarge measures.Frames) is short told cause = absurd cause
 formula_refused call d bytes read (stops.TooLarge measures.Walk) is short told cause = absurd cause
-formula_refused call d bytes read stops.BadCircuit is short told cause = absurd cause
+formula_refused call d bytes read (stops.BadCircuit at kind) is short told cause = absurd cause
 formula_refused call d bytes read (stops.BadSignals line kind) is short told cause = absurd cause
 formula_refused call d bytes read (stops.Refused (refusals.Formula line kind)) is short told cause = (
   cause.0,
@@ -96,3 +99,61 @@ formula_refused call d bytes read (stops.Refused (refusals.Proof line kind)) is 
 formula_refused call d bytes read (stops.Refused (refusals.Step step kind)) is short told cause = absurd cause
 formula_refused call d bytes read stops.CannotWrite is short told cause = absurd cause
 formula_refused call d bytes read stops.OutOfMemory is short told cause = λ e. cc
+
+pub circuit_refused : (call : CoverCall) (d : DeskSeen) (bytes read : List ℕ) (stop : Stop) → read ≡ bytes → IfSome (d.text call.circuit) (λ t. bytes ≡ t) → CircuitCause read stop
+    → EarlyCause (Cover call) d stop
+circuit_refused call d bytes read stops.Usage is told cause = absurd cause
+circuit_refused call d bytes read (stops.Unreadable f) is told cause = absurd cause
+circuit_refused call d bytes read (stops.TooLong f) is told cause = absurd cause
+circuit_refused call d bytes read (stops.TooLarge m) is told cause = absurd cause
+circuit_refused call d bytes read (stops.BadCircuit at kind) is told cause =
+    IfSome-map (λ (t : List ℕ). bytes ≡ t) (HasCircuitFault at kind) (d.text call.circuit) (λ t same. subst (HasCircuitFault at kind) (is ∙ same) cause) told
+circuit_refused call d bytes read (stops.BadSignals line kind) is told cause = absurd cause
+circuit_refused call d bytes read (stops.Refused why) is told cause = absurd cause
+circuit_refused call d bytes read stops.CannotWrite is told cause = absurd cause
+circuit_refused call d bytes read stops.OutOfMemory is told cause = λ e. cc
+
+pub signals_refused : (call : CoverCall) (d : DeskSeen) (c : Parts) (bytes read : List ℕ) (stop : Stop) → read ≡ bytes → length bytes ≤ limit_of files.Signals → HasCircuit call d c
+    → IfSome (d.text call.signals) (λ t. bytes ≡ t) → SignalsCause c read stop → EarlyCause (Cover call) d stop
+signals_refused call d c bytes read stops.Usage is short has told cause = absurd cause
+signals_refused call d c bytes read (stops.Unreadable f) is short has told cause = absurd cause
+signals_refused call d c bytes read (stops.TooLong f) is short has told cause = absurd cause
+signals_refused call d c bytes read (stops.TooLarge m) is short has told cause = absurd cause
+signals_refused call d c bytes read (stops.BadCircuit at kind) is short has told cause = absurd cause
+signals_refused call d c bytes read (stops.BadSignals line kind) is short has told cause = (
+  c,
+  has,
+  IfSome-map (λ (t : List ℕ). bytes ≡ t) (HasSignalsFault c line kind) (d.text call.signals)
+      (λ t same. subst (HasSignalsFault c line kind) same (record { short = short; first = subst (λ (xs : List ℕ). IsFirstInSignals c xs line kind) is cause })) told,
+)
+signals_refused call d c bytes read (stops.Refused why) is short has told cause = absurd cause
+signals_refused call d c bytes read stops.CannotWrite is short has told cause = absurd cause
+signals_refused call d c bytes read stops.OutOfMemory is short has told cause = λ e. cc
+
+-- ---- the second file isn't read
+-- what was counted later was counted
+still_faulted : (d e : DeskSeen) (n : List ℕ) → d.faults n ≤ e.faults n → HasFaulted e n → HasFaulted (joined d e) n
+still_faulted d e n counts rose =
+    let later : min (e.faults n + 1) (2 ^ 64 - 1) ≤ e.faults_after n = rose in
+    let earlier : min (d.faults n + 1) (2 ^ 64 - 1) ≤ e.faults_after n = omega (arith, counts) in
+    earlier
+
+still_long : (d e : DeskSeen) (f : File) (n : List ℕ) → e.text n ≡ d.text n → IsTooLong e f n → IsTooLong (joined d e) f n
+still_long d e f n same long =
+    record { named = long.named; past = long.past; told = subst (λ (o : Option (List ℕ)). IfSome o (λ t. limit_of f < length t)) same long.told }
+
+pub second_unread : (command : Command) (d e : DeskSeen) (f : File) (n : List ℕ) (stop : Stop) → (command ≢ Usage) → name_of command f ≡ Some n → IsReached command (joined d e) f
+    → e.text n ≡ d.text n → d.faults n ≤ e.faults n → PartCause e f n stop → EarlyCause command (joined d e) stop
+second_unread command d e f n stops.Usage called named reached same counts cause = absurd cause
+second_unread command d e f n (stops.Unreadable h) called named reached same counts cause =
+    subst (λ (x : File). IsReached command (joined d e) x × IsSomeAnd (name_of command x) (HasFaulted (joined d e))) (sym cause.0)
+    (reached, subst (λ (o : Option (List ℕ)). IsSomeAnd o (HasFaulted (joined d e))) (sym named) (still_faulted d e n counts cause.1))
+second_unread command d e f n (stops.TooLong h) called named reached same counts cause =
+    subst (λ (x : File). IsReached command (joined d e) x × IsSomeAnd (name_of command x) (IsTooLong (joined d e) x)) (sym cause.0)
+    (reached, subst (λ (o : Option (List ℕ)). IsSomeAnd o (IsTooLong (joined d e) f)) (sym named) (still_long d e f n same cause.1))
+second_unread command d e f n (stops.TooLarge m) called named reached same counts cause = absurd cause
+second_unread command d e f n (stops.BadCircuit at kind) called named reached same counts cause = absurd cause
+second_unread command d e f n (stops.BadSignals line kind) called named reached same counts cause = absurd cause
+second_unread command d e f n (stops.Refused why) called named reached same counts cause = absurd cause
+second_unread command d e f n stops.CannotWrite called named reached same counts cause = absurd cause
+second_unread command d e f n stops.OutOfMemory called named reached same counts cause = called

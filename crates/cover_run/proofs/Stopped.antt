@@ -9,6 +9,7 @@ use Rattle.lrat_text.specs.declared.fault.LratKind.{LratKind}
 use Rattle.lrat_text.specs.declared.proof.LratStep.{LratStep}
 use Rattle.lrat_check.specs.declared.fault.ProofKind.{ProofKind}
 use Rattle.lrat_check.specs.FirstFault.{first_fault}
+use Rattle.aig_ascii.specs.declared.fault.AagKind.{AagKind}
 use Rattle.signal_list.specs.declared.fault.SigKind.{SigKind}
 use Rattle.cover_run.specs.declared.stop.File.TheVariants as files
 use Rattle.cover_run.specs.declared.stop.Measure.{Measure}
@@ -26,7 +27,7 @@ use Rattle.cover_run.specs.Words.{CoverCall, LratCall, Command, Help, Version, C
 pub data CoverStops (call : CoverCall) (d : DeskSeen) (out : SinkSeen) (stop : Stop) : Type 0 where
   circuit_unreadable : stop ≡ stops.Unreadable files.Circuit → HasFaulted d call.circuit → CoverStops call d out stop
   circuit_long : stop ≡ stops.TooLong files.Circuit → IsTooLong d files.Circuit call.circuit → CoverStops call d out stop
-  bad_circuit : stop ≡ stops.BadCircuit → RefusesCircuit call d → CoverStops call d out stop
+  bad_circuit : (at : ℕ) (kind : AagKind) → stop ≡ stops.BadCircuit at kind → RefusesCircuit call d at kind → CoverStops call d out stop
   signals_unreadable : stop ≡ stops.Unreadable files.Signals → HasSomeCircuit call d → HasFaulted d call.signals → CoverStops call d out stop
   signals_long : stop ≡ stops.TooLong files.Signals → HasSomeCircuit call d → IsTooLong d files.Signals call.signals → CoverStops call d out stop
   bad_signals : (line : ℕ) (kind : SigKind) → stop ≡ stops.BadSignals line kind → RefusesSignals call d line kind → CoverStops call d out stop
@@ -46,7 +47,7 @@ cover_stops call d out (stops.TooLong files.Signals) cause = signals_long refl c
 cover_stops call d out (stops.TooLong files.Formula) cause = absurd cause.0
 cover_stops call d out (stops.TooLong files.Proof) cause = absurd cause.0
 cover_stops call d out (stops.TooLarge m) cause = too_much m refl cause.0 cause.1 cause.2 cause.3 cause.4
-cover_stops call d out stops.BadCircuit cause = bad_circuit refl cause
+cover_stops call d out (stops.BadCircuit at kind) cause = bad_circuit at kind refl cause
 cover_stops call d out (stops.BadSignals line kind) cause = bad_signals line kind refl cause
 cover_stops call d out (stops.Refused why) cause = absurd cause
 cover_stops call d out stops.CannotWrite cause = not_written refl cause.0 cause.1.0 cause.1.1 cause.1.2
@@ -85,7 +86,7 @@ lrat_stops call d out (stops.TooLong files.Proof) cause = proof_long refl cause.
 lrat_stops call d out (stops.TooLarge measures.Formula) cause = bad_formula cause.0 dimacs.Limit refl cause.1
 lrat_stops call d out (stops.TooLarge measures.Frames) cause = absurd cause
 lrat_stops call d out (stops.TooLarge measures.Walk) cause = absurd cause
-lrat_stops call d out stops.BadCircuit cause = absurd cause
+lrat_stops call d out (stops.BadCircuit at kind) cause = absurd cause
 lrat_stops call d out (stops.BadSignals line kind) cause = absurd cause
 lrat_stops call d out (stops.Refused (refusals.Formula line kind)) cause = bad_formula line kind (refused_formula line kind cause.0) cause.1
 lrat_stops call d out (stops.Refused (refusals.Proof line kind)) cause = bad_proof line kind refl cause.0 cause.1
@@ -98,7 +99,7 @@ help_stops d out stops.Usage cause = absurd cc
 help_stops d out (stops.Unreadable f) cause = absurd cause.0
 help_stops d out (stops.TooLong f) cause = absurd cause.0
 help_stops d out (stops.TooLarge m) cause = absurd cause
-help_stops d out stops.BadCircuit cause = absurd cause
+help_stops d out (stops.BadCircuit at kind) cause = absurd cause
 help_stops d out (stops.BadSignals line kind) cause = absurd cause
 help_stops d out (stops.Refused why) cause = absurd cause
 help_stops d out stops.CannotWrite cause = inl cause.0
@@ -109,7 +110,7 @@ version_stops d out stops.Usage cause = absurd cc
 version_stops d out (stops.Unreadable f) cause = absurd cause.0
 version_stops d out (stops.TooLong f) cause = absurd cause.0
 version_stops d out (stops.TooLarge m) cause = absurd cause
-version_stops d out stops.BadCircuit cause = absurd cause
+version_stops d out (stops.BadCircuit at kind) cause = absurd cause
 version_stops d out (stops.BadSignals line kind) cause = absurd cause
 version_stops d out (stops.Refused why) cause = absurd cause
 version_stops d out stops.CannotWrite cause = inl cause.0

@@ -1,6 +1,7 @@
 -- How a run ends, and why.
 use Rattle.std.specs.Prelude.{◌≡◌, ◌≢◌, ◌⊎◌, ℕ, Bool, true, List, IsSomeAnd}
 use Rattle.run_io.specs.Sink.{GrewByPrefix}
+use Rattle.aig_ascii.specs.declared.fault.AagKind.{AagKind}
 use Rattle.signal_list.specs.declared.fault.SigKind.{SigKind}
 use Rattle.cover_run.specs.declared.stop.File.{File}
 use Rattle.cover_run.specs.declared.stop.File.TheVariants as files
@@ -36,9 +37,9 @@ IsReached (Lrat call) d files.Formula = Unit {0}
 IsReached (Lrat call) d files.Proof = HasSomeFormula call d
 IsReached command d f = ⊥
 
-abbrev pub HasBadCircuit : Command → DeskSeen → Type 0
-HasBadCircuit (Cover call) d = RefusesCircuit call d
-HasBadCircuit command d = ⊥
+abbrev pub HasBadCircuit : Command → DeskSeen → ℕ → AagKind → Type 0
+HasBadCircuit (Cover call) d at kind = RefusesCircuit call d at kind
+HasBadCircuit command d at kind = ⊥
 
 abbrev pub HasBadSignals : Command → DeskSeen → ℕ → SigKind → Type 0
 HasBadSignals (Cover call) d line kind = RefusesSignals call d line kind
@@ -60,7 +61,7 @@ EarlyCause command d stops.Usage = command ≡ Usage
 EarlyCause command d (stops.Unreadable f) = IsReached command d f × IsSomeAnd (name_of command f) (HasFaulted d)
 EarlyCause command d (stops.TooLong f) = IsReached command d f × IsSomeAnd (name_of command f) (IsTooLong d f)
 EarlyCause command d (stops.TooLarge m) = IsTooLarge command d m
-EarlyCause command d stops.BadCircuit = HasBadCircuit command d
+EarlyCause command d (stops.BadCircuit at kind) = HasBadCircuit command d at kind
 EarlyCause command d (stops.BadSignals line kind) = HasBadSignals command d line kind
 EarlyCause command d (stops.Refused why) = IsRefused command d why
 EarlyCause command d stops.CannotWrite = ⊥

@@ -1,16 +1,17 @@
 -- What `cover` reads and writes.
 use Rattle.std.specs.Prelude.{◌≡◌, ℕ, ◌+◌, ◌*◌, ◌<◌, ◌≤◌, max, Bool, nat_eq, List, length, IfSome}
 use Rattle.aig_model.specs.declared.parts.Parts.{Parts}
+use Rattle.aig_ascii.specs.Aag.{SpellsCircuit, IsFirstFault as IsFirstInCircuit}
+use Rattle.aig_ascii.specs.declared.fault.AagKind.{AagKind}
 use Rattle.report_text.specs.declared.options.Options.{Options}
 use Rattle.cover_run.specs.declared.stop.File.TheVariants as files
 use Rattle.cover_run.specs.declared.stop.Measure.{Measure}
 use Rattle.cover_run.specs.declared.stop.Measure.TheVariants as measures
-use Rattle.cover_run.specs.FirstForms.{SpellsCircuit}
 use Rattle.cover_run.specs.Files.{limit_of}
 use Rattle.cover_run.specs.Report.{IsReport}
 use Rattle.cover_run.specs.Seen.{DeskSeen}
 use Rattle.cover_run.specs.Words.{CoverCall}
-use Rattle.signal_list.specs.SignalText.{SpellsSignals, IsFirstFault}
+use Rattle.signal_list.specs.SignalText.{SpellsSignals, IsFirstFault as IsFirstInSignals}
 use Rattle.signal_list.specs.declared.fault.SigKind.{SigKind}
 
 -- a text within its limit that spells the circuit, and one that spells the signals
@@ -22,15 +23,15 @@ pub record IsSignalsText (c : Parts) (sig : List ℕ) (t : List ℕ) : Type 0 wh
   pub short : length t ≤ limit_of files.Signals
   pub spells : SpellsSignals c t sig
 
--- a text within its limit that spells no circuit
-pub record IsNoCircuit (t : List ℕ) : Type 0 where
+-- a text within its limit with this first fault, as a circuit
+pub record HasCircuitFault (at : ℕ) (kind : AagKind) (t : List ℕ) : Type 0 where
   pub short : length t ≤ limit_of files.Circuit
-  pub none : (c : Parts) → ¬ SpellsCircuit t c
+  pub first : IsFirstInCircuit t at kind
 
 -- a text within its limit with this first fault, as signals of the circuit
 pub record HasSignalsFault (c : Parts) (line : ℕ) (kind : SigKind) (t : List ℕ) : Type 0 where
   pub short : length t ≤ limit_of files.Signals
-  pub first : IsFirstFault c t line kind
+  pub first : IsFirstInSignals c t line kind
 
 -- the texts, where they are told, are accepted as this circuit and these signals
 abbrev pub HasCircuit : CoverCall → DeskSeen → Parts → Type 0
@@ -63,8 +64,8 @@ IsTooMuch o c measures.Walk = (frames_of o c ≤ 4000000) × (2000000 < walk_of 
 IsTooMuch o c m = ⊥
 
 -- ---- the refusals
-abbrev pub RefusesCircuit : CoverCall → DeskSeen → Type 0
-RefusesCircuit call d = IfSome (d.text call.circuit) IsNoCircuit
+abbrev pub RefusesCircuit : CoverCall → DeskSeen → ℕ → AagKind → Type 0
+RefusesCircuit call d at kind = IfSome (d.text call.circuit) (HasCircuitFault at kind)
 
 abbrev pub RefusesSignals : CoverCall → DeskSeen → ℕ → SigKind → Type 0
 RefusesSignals call d line kind = (c : Parts) × HasCircuit call d c × IfSome (d.text call.signals) (HasSignalsFault c line kind)

@@ -4,8 +4,6 @@ pub mod Blocks
 pub mod Checking
 pub mod Covering
 pub mod Files
-pub mod FirstForms
-pub mod FirstReading
 pub mod FirstVisits
 pub mod History
 pub mod Orders

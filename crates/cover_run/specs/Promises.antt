@@ -7,6 +7,8 @@ use Rattle.cnf_base.specs.declared.fault.DimacsKind.{DimacsKind}
 use Rattle.lrat_text.specs.Lrat.{SpellsProof, IsFirstFault as IsFirstInProof}
 use Rattle.lrat_text.specs.declared.fault.LratKind.{LratKind}
 use Rattle.lrat_text.specs.declared.proof.LratStep.{LratStep}
+use Rattle.aig_ascii.specs.Aag.{SpellsCircuit, IsFirstFault as IsFirstInCircuit}
+use Rattle.aig_ascii.specs.declared.fault.AagKind.{AagKind}
 use Rattle.signal_list.specs.SignalText.{SpellsSignals, IsFirstFault as IsFirstInSignals}
 use Rattle.signal_list.specs.declared.fault.SigKind.{SigKind}
 use Rattle.lrat_check.specs.Accepted.{Accepted}
@@ -27,7 +29,6 @@ use Rattle.cover_run.specs.About.{help_text, version_text}
 use Rattle.cover_run.specs.Checking.{formula_stop}
 use Rattle.cover_run.specs.Covering.{HasRoom, IsTooMuch}
 use Rattle.cover_run.specs.Files.{name_of, limit_of, IsTooLong, IsWithin}
-use Rattle.cover_run.specs.FirstForms.{SpellsCircuit}
 use Rattle.cover_run.specs.Report.{IsReport, Asked, bounds_of, is_open}
 use Rattle.cover_run.specs.Seen.{DeskSeen, SinkSeen, HasFaulted, Failed, Took, TookWhatItCould}
 use Rattle.cover_run.specs.Stops.{line_of, status_of}
@@ -155,9 +156,10 @@ abbrev pub ReadFaultCause : Command → DeskSeen → SinkSeen → Status → Typ
 ReadFaultCause command d err status =
     status ≡ statuses.ReadFault → (f : File) × IsSomeAnd (name_of command f) (HasFaulted d) × TookWhatItCould err (line_of (stops.Unreadable f))
 
--- only where no circuit is spelled
-abbrev pub BadCircuitCause : Command → DeskSeen → Status → Type 0
-BadCircuitCause command d status = status ≡ statuses.BadCircuit → HasBadCircuit command d
+-- only where the circuit's text has the first fault that the line says
+abbrev pub BadCircuitCause : Command → DeskSeen → SinkSeen → Status → Type 0
+BadCircuitCause command d err status =
+    status ≡ statuses.BadCircuit → (at : ℕ) × (kind : AagKind) × HasBadCircuit command d at kind × TookWhatItCould err (line_of (stops.BadCircuit at kind))
 
 -- only where a circuit is spelled, and the signals' text has the first fault that the line says
 abbrev pub BadSignalsCause : Command → DeskSeen → SinkSeen → Status → Type 0
@@ -182,8 +184,8 @@ RefusedCause command d err status = status ≡ statuses.Refused → (why : Refus
 -- ---- the refusals of `cover` come
 abbrev pub BadCircuitComes : Command → DeskSeen → SinkSeen → Status → Type 0
 BadCircuitComes command d err status =
-    (call : CoverCall) (t : List ℕ) → command ≡ Cover call → IsTold d files.Circuit call.circuit t → ((c : Parts) → ¬ SpellsCircuit t c)
-    → Answers err status stops.BadCircuit
+    (call : CoverCall) (t : List ℕ) (at : ℕ) (kind : AagKind) → command ≡ Cover call → IsTold d files.Circuit call.circuit t → IsFirstInCircuit t at kind
+    → Answers err status (stops.BadCircuit at kind)
 
 abbrev pub BadSignalsComes : Command → DeskSeen → SinkSeen → Status → Type 0
 BadSignalsComes command d err status =

@@ -2,6 +2,7 @@
 use Rattle.std.specs.Prelude.{◌≡◌, ◌≢◌, ◌⊎◌, ℕ, List, Some}
 use Rattle.aig_model.specs.declared.parts.Parts.{Parts}
 use Rattle.report_text.specs.declared.options.Options.{Options}
+use Rattle.signal_list.specs.SignalText.{IsFirstFault as IsFirstInSignals}
 use Rattle.cnf_base.specs.Dimacs.{IsFirstFault as IsFirstInFormula}
 use Rattle.cnf_base.specs.Meaning.{CnfFormula}
 use Rattle.cnf_base.specs.declared.fault.DimacsKind.TheVariants as dimacs
@@ -13,7 +14,7 @@ use Rattle.cover_run.specs.declared.stop.Measure.TheVariants as measures
 use Rattle.cover_run.specs.declared.stop.Refusal.TheVariants as refusals
 use Rattle.cover_run.specs.declared.stop.Stop.{Stop}
 use Rattle.cover_run.specs.declared.stop.Stop.TheVariants as stops
-use Rattle.cover_run.specs.Covering.{IsTooMuch}
+use Rattle.cover_run.specs.Covering.{HasCircuitFault, IsTooMuch}
 use Rattle.cover_run.specs.Files.{IsRead, IsLeft, IsTooLong}
 use Rattle.cover_run.specs.Seen.{DeskSeen, HasFaulted}
 
@@ -32,6 +33,17 @@ IsLeftOrRead d file name = IsLeft d ⊎ IsRead d file name
 abbrev pub RoomCause : Options → Parts → Stop → Type 0
 RoomCause o c (stops.TooLarge m) = IsTooMuch o c m
 RoomCause o c stop = ⊥
+
+-- why the bytes of a circuit, and those of its signals, are refused
+abbrev pub CircuitCause : List ℕ → Stop → Type 0
+CircuitCause bytes (stops.BadCircuit at kind) = HasCircuitFault at kind bytes
+CircuitCause bytes stops.OutOfMemory = Unit {0}
+CircuitCause bytes stop = ⊥
+
+abbrev pub SignalsCause : Parts → List ℕ → Stop → Type 0
+SignalsCause c bytes (stops.BadSignals line kind) = IsFirstInSignals c bytes line kind
+SignalsCause c bytes stops.OutOfMemory = Unit {0}
+SignalsCause c bytes stop = ⊥
 
 -- why the bytes of a formula, and those of a proof, are refused
 abbrev pub FormulaCause : List ℕ → Stop → Type 0

@@ -1,5 +1,7 @@
 -- What the user sees of a stop: the status, and the line on the error stream.
 use Rattle.std.specs.Prelude.{ℕ, Bool, true, false, if◌then◌else◌, List, ◌++◌, codes, decimal}
+use Rattle.aig_ascii.specs.declared.fault.AagKind.{AagKind}
+use Rattle.aig_ascii.specs.declared.fault.AagKind.TheVariants as aag
 use Rattle.signal_list.specs.declared.fault.SigKind.{SigKind}
 use Rattle.signal_list.specs.declared.fault.SigKind.TheVariants as sig
 use Rattle.cnf_base.specs.declared.fault.DimacsKind.{DimacsKind}
@@ -24,7 +26,7 @@ status_of stops.Usage = statuses.Usage
 status_of (stops.Unreadable f) = statuses.ReadFault
 status_of (stops.TooLong f) = statuses.Limit
 status_of (stops.TooLarge m) = statuses.Limit
-status_of stops.BadCircuit = statuses.BadCircuit
+status_of (stops.BadCircuit at kind) = statuses.BadCircuit
 status_of (stops.BadSignals line kind) = statuses.BadSignals
 status_of (stops.Refused why) = statuses.Refused
 status_of stops.CannotWrite = statuses.WriteFault
@@ -57,6 +59,19 @@ measure_word measures.Frames = codes "frames"
 measure_word measures.Walk = codes "walk"
 
 -- the names of the kinds of fault
+abbrev pub aag_word : AagKind → List ℕ
+aag_word aag.Header = codes "Header"
+aag_word aag.Number = codes "Number"
+aag_word aag.Range = codes "Range"
+aag_word aag.Defined = codes "Defined"
+aag_word aag.Undefined = codes "Undefined"
+aag_word aag.Cycle = codes "Cycle"
+aag_word aag.Reset = codes "Reset"
+aag_word aag.Symbol = codes "Symbol"
+aag_word aag.Truncated = codes "Truncated"
+aag_word aag.Liveness = codes "Liveness"
+aag_word aag.Limit = codes "Limit"
+
 abbrev pub sig_word : SigKind → List ℕ
 sig_word sig.Form = codes "Form"
 sig_word sig.Range = codes "Range"
@@ -108,7 +123,7 @@ line_of stops.Usage = codes "ketch: usage: ketch cover|check|goals|replay|lrat|m
 line_of (stops.Unreadable f) = word_line (codes "ketch: cannot read ") (file_word f)
 line_of (stops.TooLong f) = word_line (codes "ketch: limit: ") (file_word f)
 line_of (stops.TooLarge m) = word_line (codes "ketch: limit: ") (measure_word m)
-line_of stops.BadCircuit = codes "ketch: circuit at 0: NotBuilt\n"
+line_of (stops.BadCircuit at kind) = placed_line (codes "ketch: circuit at ") at (aag_word kind)
 line_of (stops.BadSignals line kind) = placed_line (codes "ketch: signals line ") line (sig_word kind)
 line_of (stops.Refused why) = refusal_line why
 line_of stops.CannotWrite = codes "ketch: cannot write\n"

@@ -1,22 +1,24 @@
 //! The command `cover`: it reads, computes and says what to write, and only then is anything written.
 
-ghost use Rattle.std.specs.Prelude.{◌≡◌, ℕ, List, IfOk, IfErr, OnOk, nat_eq};
+ghost use Rattle.std.specs.Prelude.{◌≡◌, ◌≤◌, ℕ, List, IfOk, IfErr, OnOk, length, nat_eq};
+ghost use Rattle.aig_ascii.specs.Aag.{SpellsCircuit};
+ghost use Rattle.signal_list.specs.SignalText.{SpellsSignals};
 ghost use Rattle.cover_run.specs.Answer.{EarlyCause};
 ghost use Rattle.cover_run.specs.Covering.{HasCircuit, HasSignals, HasRoom, IsCoverOutput};
 ghost use Rattle.cover_run.specs.Files.{IsWithin};
 ghost use Rattle.cover_run.specs.Orders.{cover_call};
 ghost use Rattle.cover_run.specs.Report.{IsReport};
-ghost use Rattle.cover_run.specs.Steps.{RoomCause};
+ghost use Rattle.cover_run.specs.Steps.{CircuitCause, SignalsCause, RoomCause};
 ghost use Rattle.cover_run.specs.Stops.{UnlessTooLong};
 ghost use Rattle.cover_run.specs.Words.{Cover as CoverCommand};
 
 use crate::command::Cover;
 use crate::composing::compose;
-use crate::first_forms::{FormFault, read_circuit};
 use crate::output::Output;
 use crate::part::read_part;
 use crate::stop::{File, Measure, Stop};
 use crate::walk::zero_walk;
+use aig_ascii::{AagFault, read_aag};
 use aig_model::{Circuit, Signals};
 use ketch_base::OutOfMemory;
 use report_text::{Options, text_of};
@@ -25,7 +27,33 @@ use signal_list::{SigFault, read_signals};
 use std::alloc::Global;
 use text_words::lines_at_most_bytes;
 
-/// The circuit and the signals of a command.
+fn circuit_of(alloc: Global, bytes: &[u8]) -> Result<Circuit, Stop>
+    requires { length bytes.now ≤ 67108864 }
+    ensures circuit { IfOk result (SpellsCircuit bytes.now) }
+    ensures cause { IfErr result (CircuitCause bytes.now) }
+{
+    match read_aag(alloc, bytes) {
+        Ok(circuit) => Ok(circuit),
+        Err(AagFault::At { at, kind }) => Err(Stop::BadCircuit { at, kind }),
+        Err(AagFault::OutOfMemory) => Err(Stop::OutOfMemory),
+    }
+}
+
+fn signals_of(alloc: Global, bytes: &[u8], circuit: &Circuit) -> Result<Signals, Stop>
+    requires { length bytes.now ≤ 65536 }
+    ensures same { IfOk result (λ signals. signals.circuit ≡ circuit.now) }
+    ensures signals { IfOk result (λ signals. SpellsSignals circuit.now bytes.now signals.lits) }
+    ensures cause { IfErr result (SignalsCause circuit.now bytes.now) }
+{
+    lines_at_most_bytes(bytes);
+    match read_signals(alloc, bytes, circuit) {
+        Ok(signals) => Ok(signals),
+        Err(SigFault::At { line, kind }) => Err(Stop::BadSignals { line, kind }),
+        Err(SigFault::OutOfMemory) => Err(Stop::OutOfMemory),
+    }
+}
+
+/// The circuit and the signals of a command. The bytes of each file go once they are read.
 fn read_both<D: Desk>(
     alloc: Global,
     desk: &mut D,
@@ -44,19 +72,13 @@ fn read_both<D: Desk>(
     ensures within { IfErr result (λ stop. UnlessTooLong stop (IsWithin (CoverCommand (cover_call call.now))
         (record { text = D.text desk.old; faults = D.faults desk.old; faults_after = D.faults desk.new; started = D.started desk.old; started_after = D.started desk.new; given = D.given desk.old; given_after = D.given desk.new }))) }
 {
-    let bytes = read_part(alloc, desk, File::Circuit, call.circuit)?;
-    let circuit = match read_circuit(alloc, &bytes) {
-        Ok(circuit) => circuit,
-        Err(FormFault::NotBuilt) => return Err(Stop::BadCircuit),
-        Err(FormFault::OutOfMemory) => return Err(Stop::OutOfMemory),
+    let circuit = {
+        let bytes = read_part(alloc, desk, File::Circuit, call.circuit)?;
+        circuit_of(alloc, &bytes)?
     };
     let bytes = read_part(alloc, desk, File::Signals, call.signals)?;
-    lines_at_most_bytes(&bytes);
-    match read_signals(alloc, &bytes, &circuit) {
-        Ok(signals) => Ok((circuit, signals)),
-        Err(SigFault::At { line, kind }) => Err(Stop::BadSignals { line, kind }),
-        Err(SigFault::OutOfMemory) => Err(Stop::OutOfMemory),
-    }
+    let signals = signals_of(alloc, &bytes, &circuit)?;
+    Ok((circuit, signals))
 }
 
 /// Whether the searches and walks that are asked for are within their limits.

@@ -6,7 +6,6 @@ mod checking;
 mod command;
 mod composing;
 mod covering;
-mod first_forms;
 mod first_visits;
 mod gate;
 mod line;

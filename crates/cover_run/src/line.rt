@@ -1,9 +1,10 @@
 //! The lines on the error stream. They take no memory.
 
 ghost use Rattle.std.specs.Prelude.{◌≡◌, ◌+◌, ◌<◌, ◌≤◌, ◌++◌, length, codes, decimal};
-ghost use Rattle.cover_run.specs.Stops.{file_word, measure_word, sig_word, dimacs_word, lrat_word, proof_words, word_line, placed_text, placed_line, refusal_line, line_of};
+ghost use Rattle.cover_run.specs.Stops.{file_word, measure_word, aag_word, sig_word, dimacs_word, lrat_word, proof_words, word_line, placed_text, placed_line, refusal_line, line_of};
 
 use crate::stop::{File, Measure, Refusal, Stop};
+use aig_ascii::AagKind;
 use arrayvec::ArrayString;
 use cnf_base::DimacsKind;
 use itoa::Buffer;
@@ -58,6 +59,25 @@ fn lrat_word(kind: LratKind) -> &'static str
         LratKind::Number => "Number",
         LratKind::Form => "Form",
         LratKind::Truncated => "Truncated",
+    }
+}
+
+fn aag_word(kind: AagKind) -> &'static str
+    ensures word { result.now ≡ aag_word kind }
+    ensures short { length result.now ≤ 20 }
+{
+    match kind {
+        AagKind::Header => "Header",
+        AagKind::Number => "Number",
+        AagKind::Range => "Range",
+        AagKind::Defined => "Defined",
+        AagKind::Undefined => "Undefined",
+        AagKind::Cycle => "Cycle",
+        AagKind::Reset => "Reset",
+        AagKind::Symbol => "Symbol",
+        AagKind::Truncated => "Truncated",
+        AagKind::Liveness => "Liveness",
+        AagKind::Limit => "Limit",
     }
 }
 
@@ -189,7 +209,7 @@ pub(crate) fn line_of(stop: Stop) -> Line
         Stop::Unreadable(file) => word_line("ketch: cannot read ", file_word(file)),
         Stop::TooLong(file) => word_line("ketch: limit: ", file_word(file)),
         Stop::TooLarge(measure) => word_line("ketch: limit: ", measure_word(measure)),
-        Stop::BadCircuit => line_from("ketch: circuit at 0: NotBuilt\n"),
+        Stop::BadCircuit { at, kind } => placed_line("ketch: circuit at ", at, aag_word(kind)),
         Stop::BadSignals { line, kind } => {
             placed_line("ketch: signals line ", line.into(), sig_word(kind))
         }

@@ -158,7 +158,8 @@ pub fn run<R: Threads + Sync, D: Desk, O: Sink, E: Sink, G: Gate>(
         (record { text = D.text desk.old; faults = D.faults desk.old; faults_after = D.faults desk.new; started = D.started desk.old; started_after = D.started desk.new; given = D.given desk.old; given_after = D.given desk.new })
         (record { taken = E.taken err.old; taken_after = E.taken err.new; faults = E.faults err.old; faults_after = E.faults err.new; idle = E.idle err.old; idle_after = E.idle err.new }) result }
     ensures bad_circuit { BadCircuitCause (meaning (texts words.now))
-        (record { text = D.text desk.old; faults = D.faults desk.old; faults_after = D.faults desk.new; started = D.started desk.old; started_after = D.started desk.new; given = D.given desk.old; given_after = D.given desk.new }) result }
+        (record { text = D.text desk.old; faults = D.faults desk.old; faults_after = D.faults desk.new; started = D.started desk.old; started_after = D.started desk.new; given = D.given desk.old; given_after = D.given desk.new })
+        (record { taken = E.taken err.old; taken_after = E.taken err.new; faults = E.faults err.old; faults_after = E.faults err.new; idle = E.idle err.old; idle_after = E.idle err.new }) result }
     ensures bad_circuit_comes { BadCircuitComes (meaning (texts words.now))
         (record { text = D.text desk.old; faults = D.faults desk.old; faults_after = D.faults desk.new; started = D.started desk.old; started_after = D.started desk.new; given = D.given desk.old; given_after = D.given desk.new })
         (record { taken = E.taken err.old; taken_after = E.taken err.new; faults = E.faults err.old; faults_after = E.faults err.new; idle = E.idle err.old; idle_after = E.idle err.new }) result }

@@ -4,6 +4,7 @@ ghost use Rattle.std.specs.Prelude.{◌≡◌};
 ghost use Rattle.cover_run.specs.Files.{limit_of};
 ghost use Rattle.cover_run.specs.Stops.{status_of, settled_status};
 
+use aig_ascii::AagKind;
 use cnf_base::DimacsKind;
 use ketch_base::OutOfMemory;
 use lrat_check::ProofKind;
@@ -45,7 +46,8 @@ pub enum Stop {
     Unreadable(File),
     TooLong(File),
     TooLarge(Measure),
-    BadCircuit,
+    /// The place is the first byte at fault, counted from 0.
+    BadCircuit { at: u64, kind: AagKind },
     /// Lines count from 1; a list without a signal is seen at line 0.
     BadSignals { line: u32, kind: SigKind },
     Refused(Refusal),
@@ -96,7 +98,7 @@ pub(crate) fn status_of(stop: Stop) -> Status
         Stop::Usage => Status::Usage,
         Stop::Unreadable(_) => Status::ReadFault,
         Stop::TooLong(_) | Stop::TooLarge(_) => Status::Limit,
-        Stop::BadCircuit => Status::BadCircuit,
+        Stop::BadCircuit { at: _, kind: _ } => Status::BadCircuit,
         Stop::BadSignals { line: _, kind: _ } => Status::BadSignals,
         Stop::Refused(_) => Status::Refused,
         Stop::CannotWrite => Status::WriteFault,

@@ -22,9 +22,16 @@ const FREE_REPORT: &[u8] =
 const NEGATED_REPORT: &[u8] =
     b"ketch 1\nsize 0 1 1\noptions 0 0 1000 100 4 1 20000 0 0 0\nhistory 2\n0 0 1 r zero 0\n1 0 0 r zero 1\nseeds 0\ninvs 0\ngoals 2\ngoal 0 reached 1\n1\nb0\n0\n\n\n.\ngoal 1 reached 0\n1\nb1\n0\n\n.\nspents 0\nrefutes 0\nend 2 0 0\n";
 
+/// Gates out of order, and two inputs that the walk leaves at 0, so the latch stays at 0.
+const ENABLE_AND_RESET: &[u8] =
+    b"aag 7 2 1 2 4\n2\n4\n6 8\n6\n7\n8 4 10\n10 13 15\n12 2 6\n14 3 7\ni0 enable\ni1 reset\n";
+
+const ENABLE_REPORT: &[u8] =
+    b"ketch 1\nsize 2 1 2\noptions 0 0 1000 100 4 1 20000 0 0 0\nhistory 1\n0 0 0 r zero 0\nseeds 0\ninvs 0\ngoals 4\ngoal 0 reached 0\n1\nb0\n0\n00\n.\ngoal 1 open depth none hops strength none\ngoal 2 open depth none hops strength none\ngoal 3 open depth none hops strength none\nspents 0\nrefutes 0\nend 1 0 3\n";
+
 #[test]
 fn reports(rt: HostRuntime) -> Result<(), Fail> {
-    let rows: [(&str, &[u8], &[u8], Status, &[u8]); 4] = [
+    let rows: [(&str, &[u8], &[u8], Status, &[u8]); 5] = [
         (
             "the toggle",
             TOGGLE,
@@ -40,6 +47,13 @@ fn reports(rt: HostRuntime) -> Result<(), Fail> {
             NEGATED_REPORT,
         ),
         ("the ring", RING, b"l0\nl1\n", Status::Open, RING_REPORT),
+        (
+            "gates, and a signal by its name",
+            ENABLE_AND_RESET,
+            b"l0\n@enable\n",
+            Status::Open,
+            ENABLE_REPORT,
+        ),
         (
             "a free reset",
             b"aag 1 0 1 0 0\n2 2 2\n",
@@ -104,18 +118,18 @@ fn refusals(rt: HostRuntime) -> Result<(), Fail> {
             b"ketch: signals line 11: TooMany\n",
         ),
         (
-            "a fifth number that isn't 0",
-            b"aag 0 0 0 0 1\n",
-            b"l0\n",
-            Status::BadCircuit,
-            b"ketch: circuit at 0: NotBuilt\n",
+            "a name of two places",
+            b"aag 1 0 1 1 0\n2 3\n2\nl0 Q\no0 Q\n",
+            b"@Q\n",
+            Status::BadSignals,
+            b"ketch: signals line 1: TwoNames\n",
         ),
         (
-            "no last newline",
-            b"aag 1 0 1 2 0\n2 3\n2\n3",
-            b"l0\n",
-            Status::BadCircuit,
-            b"ketch: circuit at 0: NotBuilt\n",
+            "frames that are too large",
+            b"aag 800000 0 0 1 0\n0\n",
+            b"o0\n",
+            Status::Limit,
+            b"ketch: limit: frames\n",
         ),
         (
             "signals too long",
@@ -130,6 +144,40 @@ fn refusals(rt: HostRuntime) -> Result<(), Fail> {
         assert_eq!(rt; outcome.status, status, "{name}");
         assert!(rt; outcome.out.is_empty(), "{name}");
         assert!(rt; outcome.err.as_slice() == line, "{name}");
+    }
+    Ok(())
+}
+
+#[test]
+fn bad_circuits(rt: HostRuntime) -> Result<(), Fail> {
+    let rows: [(&[u8], &[u8]); 9] = [
+        (b"", b"ketch: circuit at 0: Header\n"),
+        (b"aig 0 0 0 0 0\n", b"ketch: circuit at 0: Header\n"),
+        (b"aag 1 0 1 0 0\n", b"ketch: circuit at 14: Truncated\n"),
+        (
+            b"aag 1 0 1 0 0 0 0 1\n2 3\n",
+            b"ketch: circuit at 18: Liveness\n",
+        ),
+        (b"aag 4000000 0 0 0 0\n", b"ketch: circuit at 4: Limit\n"),
+        (b"aag 1 0 1 0 0\n2 3 4\n", b"ketch: circuit at 18: Reset\n"),
+        (
+            b"aag 2 1 0 1 0\n2\n4\n",
+            b"ketch: circuit at 16: Undefined\n",
+        ),
+        (
+            b"aag 1 1 0 0 0\n2\ni1 a\n",
+            b"ketch: circuit at 16: Symbol\n",
+        ),
+        (
+            b"aag 3 1 0 1 2\n2\n4\n4 6 2\n6 4 2\n",
+            b"ketch: circuit at 18: Cycle\n",
+        ),
+    ];
+    for (circuit, line) in rows {
+        let outcome = Setting::cover(circuit, b"x").run(&rt, rt.alloc())?;
+        assert_eq!(rt; outcome.status, Status::BadCircuit);
+        assert!(rt; outcome.out.is_empty());
+        assert!(rt; outcome.err.as_slice() == line);
     }
     Ok(())
 }
