@@ -7,7 +7,7 @@ use Rattle.cnf_base.specs.declared.fault.DimacsKind.TheVariants as dimacs
 use Rattle.lrat_text.specs.Lrat.{SpellsProof, IsFirstFault as IsFirstInProof}
 use Rattle.lrat_text.specs.declared.fault.LratKind.{LratKind}
 use Rattle.lrat_text.specs.declared.proof.LratStep.{LratStep}
-use Rattle.lrat_check.specs.Accepted.{Accepted}
+use Rattle.lrat_text.specs.Accepted.{Accepted}
 use Rattle.lrat_check.specs.FirstFault.{first_fault}
 use Rattle.cover_run.specs.declared.stop.File.TheVariants as files
 use Rattle.cover_run.specs.declared.stop.Measure.TheVariants as measures

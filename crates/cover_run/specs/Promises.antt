@@ -11,7 +11,7 @@ use Rattle.aig_ascii.specs.Aag.{SpellsCircuit, IsFirstFault as IsFirstInCircuit}
 use Rattle.aig_ascii.specs.declared.fault.AagKind.{AagKind}
 use Rattle.signal_list.specs.SignalText.{SpellsSignals, IsFirstFault as IsFirstInSignals}
 use Rattle.signal_list.specs.declared.fault.SigKind.{SigKind}
-use Rattle.lrat_check.specs.Accepted.{Accepted}
+use Rattle.lrat_text.specs.Accepted.{Accepted}
 use Rattle.lrat_check.specs.FirstFault.{first_fault}
 use Rattle.lrat_check.specs.declared.fault.ProofKind.{ProofKind}
 use Rattle.report_text.specs.declared.report.GoalBlock.{GoalBlock}

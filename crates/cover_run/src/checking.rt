@@ -3,7 +3,7 @@
 ghost use Rattle.std.specs.Prelude.{◌≡◌, ◌≤◌, ℕ, List, IfOk, IfErr, OnOk, length, codes, true};
 ghost use Rattle.cnf_base.specs.Dimacs.{SpellsFormula};
 ghost use Rattle.lrat_text.specs.Lrat.{SpellsProof};
-ghost use Rattle.lrat_check.specs.Accepted.{Accepted};
+ghost use Rattle.lrat_text.specs.Accepted.{Accepted};
 ghost use Rattle.cover_run.specs.Answer.{EarlyCause};
 ghost use Rattle.cover_run.specs.Checking.{formula_stop, HasFormula, HasProof, IsLratOutput};
 ghost use Rattle.cover_run.specs.Files.{IsWithin};

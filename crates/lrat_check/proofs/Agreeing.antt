@@ -9,8 +9,8 @@ use Rattle.lrat_text.specs.declared.proof.LratStep.{LratStep}
 use Rattle.lrat_text.specs.declared.proof.LratStep.TheVariants.{Add, Delete}
 use Rattle.lrat_check.specs.declared.fault.ProofKind.{ProofKind}
 use Rattle.lrat_check.specs.declared.fault.ProofKind.TheVariants.{UnknownId}
-use Rattle.lrat_check.specs.Standing.{Standing, start, clause_at, without, after}
-use Rattle.lrat_check.specs.Accepted.{Ends, MayAdd, MayDelete, MayStep, AddsEmpty, AcceptedFrom, Accepted}
+use Rattle.lrat_text.specs.Standing.{Standing, start, clause_at, without, after}
+use Rattle.lrat_text.specs.Accepted.{Ends, MayAdd, MayDelete, MayStep, AddsEmpty, AcceptedFrom, Accepted}
 use Rattle.lrat_check.specs.FirstFault.{judged_fault, named_fault, hint_fault, add_fault, delete_fault, step_fault, is_empty, adds_empty, fault_at, fault_from, first_fault}
 use Rattle.cnf_base.proofs.Literals.{list_any-found, list_any-at}
 use Rattle.cnf_base.proofs.Judging.{passed_says, passed_from, ended_says, ended_from, forces_says, forces_from}

@@ -9,9 +9,9 @@ use Rattle.cnf_base.specs.Judged.{same_lit, has}
 use Rattle.cnf_base.specs.Meaning.{CnfFormula, IsWithin}
 use Rattle.lrat_text.specs.declared.proof.LratStep.{LratStep}
 use Rattle.lrat_text.specs.declared.proof.LratStep.TheVariants.{Add, Delete}
-use Rattle.lrat_check.specs.Standing.{Standing, start, with_clause}
-use Rattle.lrat_check.specs.Accepted.{IsBothWays}
-use Rattle.lrat_check.specs.Spent.{SameLiterals, SpentFrom, SpentOn, EarnedFrom, Earned}
+use Rattle.lrat_text.specs.Standing.{Standing, start, with_clause}
+use Rattle.lrat_text.specs.Accepted.{IsBothWays}
+use Rattle.lrat_text.specs.Spent.{SameLiterals, SpentFrom, SpentOn, EarnedFrom, Earned}
 use Rattle.cnf_base.proofs.Literals.{same_tests, same_lit-true, has-head}
 
 -- how the variable y + 1 stands in a clause: not at all, itself, or negated

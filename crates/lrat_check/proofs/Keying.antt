@@ -21,7 +21,7 @@ use Rattle.std.proofs.lemmas.Bool.Decides.{Decides-int_eq}
 use Rattle.cnf_base.specs.Judged.{same_lit, has, is_tautology}
 use Rattle.lrat_text.specs.declared.proof.LratStep.{LratStep}
 use Rattle.lrat_text.specs.declared.proof.LratStep.TheVariants.{Add, Delete}
-use Rattle.lrat_check.specs.Spent.{SameLiterals}
+use Rattle.lrat_text.specs.Spent.{SameLiterals}
 use Rattle.lrat_check.specs.SpentFault.{same_literals, adds_lemma}
 use Rattle.lrat_check.specs.Keying.{IsKeyOf, Keys, holds, HoldsStep, AreTaken, TakesStep}
 use Rattle.cnf_base.proofs.Literals.{same_tests, or-false, same_lit-true, same_lit-itself, has-head}

@@ -2,7 +2,7 @@
 use Rattle.std.proofs.Common.{◌≡◌, ◌+◌, ◌<◌, ◌∷◌, ◌++◌, [], ℕ, ℤ, List, length, take, get_or, sym, ap, ◌∙◌, arith}
 use Rattle.std.specs.List.{enumerate_from}
 use Rattle.std.proofs.lemmas.List.{take_more, length-take-le}
-use Rattle.lrat_check.specs.Standing.{Standing, with_clause}
+use Rattle.lrat_text.specs.Standing.{Standing, with_clause}
 
 enumerate_from-push : (n m : ℕ) (cs : List (List ℤ)) (c : List ℤ) → m ≡ n + length cs → enumerate_from n (cs ++ c ∷ []) ≡ enumerate_from n cs ++ (m, c) ∷ []
 enumerate_from-push n m [] c h = let same : n ≡ m = omega arith in ap (λ (x : ℕ). (x, c) ∷ []) same

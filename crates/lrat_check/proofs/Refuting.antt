@@ -6,8 +6,8 @@ use Rattle.cnf_base.specs.Judged.{IsFalseIn, IsRefutedIn, IsUnitIn, same_lit, ha
 use Rattle.cnf_base.specs.Meaning.{CnfFormula, lit_true, clause_true, Satisfies, HasNoModel}
 use Rattle.lrat_text.specs.declared.proof.LratStep.{LratStep}
 use Rattle.lrat_text.specs.declared.proof.LratStep.TheVariants.{Add, Delete}
-use Rattle.lrat_check.specs.Standing.{Standing, start, clause_at, without, without_all, after}
-use Rattle.lrat_check.specs.Accepted.{Ends, IsBothWays, MayAdd, MayStep, AddsEmpty, AcceptedFrom, Accepted}
+use Rattle.lrat_text.specs.Standing.{Standing, start, clause_at, without, without_all, after}
+use Rattle.lrat_text.specs.Accepted.{Ends, IsBothWays, MayAdd, MayStep, AddsEmpty, AcceptedFrom, Accepted}
 use Rattle.cnf_base.proofs.Literals.{same_lit-true, has-head}
 
 -- literals that are all true

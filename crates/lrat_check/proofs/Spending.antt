@@ -9,9 +9,9 @@ use Rattle.lrat_text.specs.declared.proof.LratStep.{LratStep}
 use Rattle.lrat_text.specs.declared.proof.LratStep.TheVariants.{Add, Delete}
 use Rattle.lrat_check.specs.declared.fault.ProofKind.{ProofKind}
 use Rattle.lrat_check.specs.declared.fault.SpentFault.{SpentFault}
-use Rattle.lrat_check.specs.Standing.{Standing, start, after, with_clause}
+use Rattle.lrat_text.specs.Standing.{Standing, start, after, with_clause}
 use Rattle.lrat_check.specs.FirstFault.{add_fault, step_fault, is_empty}
-use Rattle.lrat_check.specs.Spent.{SameLiterals, IsLemma, SpentFrom, SpentOn}
+use Rattle.lrat_text.specs.Spent.{SameLiterals, IsLemma, SpentFrom, SpentOn}
 use Rattle.lrat_check.specs.SpentFault.{same_literals, is_lemma, spent_at, spent_from, counted, spent_fault}
 use Rattle.cnf_base.proofs.Literals.{same_tests, same_lit-true, has-head, list_any-found, list_any-at}
 use Rattle.lrat_check.proofs.Agreeing.{add_without_fault, no_add_fault}

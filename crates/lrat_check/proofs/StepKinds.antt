@@ -6,7 +6,7 @@ use Rattle.cnf_base.specs.declared.judged.Judged.TheVariants.{Passed, Ended, For
 use Rattle.cnf_base.specs.Judged.{judge, is_tautology}
 use Rattle.lrat_check.specs.declared.fault.ProofKind.{ProofKind}
 use Rattle.lrat_check.specs.declared.fault.ProofKind.TheVariants.{NoEmpty}
-use Rattle.lrat_check.specs.Standing.{Standing, clause_at, without}
+use Rattle.lrat_text.specs.Standing.{Standing, clause_at, without}
 use Rattle.lrat_check.specs.FirstFault.{judged_fault, named_fault, hint_fault, add_fault, delete_fault}
 
 judged_kind : (id : ℕ) (j : Judged) (passed : Option ProofKind) (forced : ℤ → Option ProofKind) → (passed ≡ Some NoEmpty → ⊥) → ((l : ℤ) → forced l ≡ Some NoEmpty → ⊥) → judged_fault id j passed forced ≡ Some NoEmpty → ⊥

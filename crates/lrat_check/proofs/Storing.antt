@@ -8,7 +8,7 @@ use Rattle.cnf_base.proofs.Literals.{or-false}
 use Rattle.lrat_check.specs.declared.store.Entry.{Entry}
 use Rattle.lrat_check.specs.declared.fault.ProofKind.{ProofKind}
 use Rattle.lrat_check.specs.declared.fault.ProofKind.TheVariants.{UnknownId}
-use Rattle.lrat_check.specs.Standing.{clause_at, without, without_all}
+use Rattle.lrat_text.specs.Standing.{clause_at, without, without_all}
 use Rattle.lrat_check.specs.FirstFault.{delete_fault}
 use Rattle.lrat_check.specs.Storing.{literals_of, live_of, IsRising, is_alive, killed, killed_all, first_dead, revived, revived_by}
 

@@ -6,7 +6,7 @@ use Rattle.lrat_text.specs.declared.proof.LratStep.{LratStep}
 use Rattle.lrat_check.specs.declared.fault.SpentFault.TheVariants.{Lemma}
 use Rattle.lrat_check.specs.FirstFault.{step_fault}
 use Rattle.lrat_check.specs.SpentFault.{adds_lemma, with_lemma, spent_at, spent_from}
-use Rattle.lrat_check.specs.Standing.{Standing, after}
+use Rattle.lrat_text.specs.Standing.{Standing, after}
 
 -- the earlier clauses after some steps
 abbrev pub earlier_after : List (List ℤ) → List LratStep → List (List ℤ)

@@ -8,7 +8,7 @@ use Rattle.lrat_text.specs.declared.proof.LratStep.{LratStep}
 use Rattle.lrat_text.specs.declared.proof.LratStep.TheVariants.{Add, Delete}
 use Rattle.lrat_check.specs.declared.fault.ProofKind.{ProofKind}
 use Rattle.lrat_check.specs.declared.fault.ProofKind.TheVariants.{OldId, UnknownId, NotUnit, NoConflict, NegativeHint, NoEmpty}
-use Rattle.lrat_check.specs.Standing.{Standing, start, clause_at, without, after}
+use Rattle.lrat_text.specs.Standing.{Standing, start, clause_at, without, after}
 
 -- by the judgement of the clause that a hint names; what the later hints have is given for a clause that is passed
 -- over and for one that forces a literal

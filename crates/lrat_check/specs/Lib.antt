@@ -1,10 +1,7 @@
-pub mod Accepted
 pub mod Answers
 pub mod Assuming
 pub mod FirstFault
 pub mod Keying
-pub mod Spent
 pub mod SpentFault
-pub mod Standing
 pub mod Storing
 pub mod Walking

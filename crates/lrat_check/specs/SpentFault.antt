@@ -8,7 +8,7 @@ use Rattle.lrat_text.specs.declared.proof.LratStep.TheVariants.{Add, Delete}
 use Rattle.lrat_check.specs.declared.fault.ProofKind.{ProofKind}
 use Rattle.lrat_check.specs.declared.fault.SpentFault.{SpentFault}
 use Rattle.lrat_check.specs.declared.fault.SpentFault.TheVariants.{Proof, Lemma, Count, OutOfMemory}
-use Rattle.lrat_check.specs.Standing.{Standing, start, after}
+use Rattle.lrat_text.specs.Standing.{Standing, start, after}
 use Rattle.lrat_check.specs.FirstFault.{step_fault, is_empty}
 
 -- whether two clauses have the same literals

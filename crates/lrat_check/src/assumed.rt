@@ -1,6 +1,6 @@
 //! The literals that a step assumes.
 
-ghost use Rattle.std.specs.Prelude.{◌≡◌, ◌≢◌, pos, [], ◌∷◌, ◌++◌, neg_ℤ, unsigned_abs, IsFalse, IfOk, OnOk, OnErr, false};
+ghost use Rattle.std.specs.Prelude.{◌≡◌, ◌≢◌, pos, [], ◌∷◌, ◌++◌, neg_ℤ, unsigned_abs, IsFalse, IfOk, OnOk, OnErr};
 ghost use Rattle.cnf_base.specs.Judged.{has};
 ghost use Rattle.lrat_check.specs.Assuming.{truth_in, flipped, sign_at, AreSignsOf};
 

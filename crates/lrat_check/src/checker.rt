@@ -2,10 +2,10 @@
 
 ghost use Rattle.std.specs.Prelude.{◌≡◌, ◌≢◌, ◌+◌, ◌<◌, ◌↔◌, [], None, IsOk, IfOk, IfErr, OnOk, OnErr, IsOkUnless, MatchResult};
 ghost use Rattle.cnf_base.specs.Judged.{is_tautology};
-ghost use Rattle.lrat_check.specs.Accepted.{MayAdd, MayDelete};
+ghost use Rattle.lrat_text.specs.Accepted.{MayAdd, MayDelete};
 ghost use Rattle.lrat_check.specs.Answers.{IsStepFault, IsDeleteFault};
 ghost use Rattle.lrat_check.specs.FirstFault.{add_fault, delete_fault, step_fault};
-ghost use Rattle.lrat_check.specs.Standing.{start, with_clause, with_deleted, after};
+ghost use Rattle.lrat_text.specs.Standing.{start, with_clause, with_deleted, after};
 
 use crate::assumed::Assumed;
 use crate::fault::{AddFault, ProofKind};
@@ -26,7 +26,7 @@ pub struct Checker {
 
 impl Model for Checker {
     ghost use Rattle.std.specs.Prelude.{◌≡◌, []};
-    ghost use Rattle.lrat_check.specs.Standing.{Standing};
+    ghost use Rattle.lrat_text.specs.Standing.{Standing};
 
     ghost Value = { Standing };
 

@@ -1,6 +1,6 @@
 //! Keys by which clauses with the same literals are found.
 
-ghost use Rattle.std.specs.Prelude.{◌≡◌, IfOk, OnOk, All};
+ghost use Rattle.std.specs.Prelude.{IfOk, OnOk, All};
 ghost use Rattle.lrat_check.specs.Keying.{IsKeyOf, HoldsStep, AreTaken};
 
 use cnf_base::{Clause, CnfLit};

@@ -3,9 +3,9 @@
 ghost use Rattle.std.specs.Prelude.{◌≡◌, ◌↔◌, ◌<◌, ◌^◌, ℕ, List, None};
 ghost use Rattle.cnf_base.specs.Meaning.{CnfFormula, HasNoModel};
 ghost use Rattle.lrat_text.specs.declared.proof.LratStep.{LratStep};
-ghost use Rattle.lrat_check.specs.Accepted.{Accepted};
+ghost use Rattle.lrat_text.specs.Accepted.{Accepted};
 ghost use Rattle.lrat_check.specs.FirstFault.{first_fault};
-ghost use Rattle.lrat_check.specs.Spent.{SpentOn, Earned};
+ghost use Rattle.lrat_text.specs.Spent.{SpentOn, Earned};
 ghost use Rattle.lrat_check.specs.SpentFault.{spent_fault};
 
 /// A proof is accepted exactly where it has no first fault.

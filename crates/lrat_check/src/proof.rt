@@ -1,8 +1,8 @@
 //! Whole proofs.
 
-ghost use Rattle.std.specs.Prelude.{◌≡◌, None, IfOk, OnOk, IsOkUnless, MatchResult, true};
+ghost use Rattle.std.specs.Prelude.{◌≡◌, None, OnOk, IsOkUnless, MatchResult};
 ghost use Rattle.cnf_base.specs.Meaning.{HasNoModel};
-ghost use Rattle.lrat_check.specs.Accepted.{Accepted};
+ghost use Rattle.lrat_text.specs.Accepted.{Accepted};
 ghost use Rattle.lrat_check.specs.Answers.{IsProofFault};
 ghost use Rattle.lrat_check.specs.FirstFault.{first_fault, fault_from, adds_empty};
 

@@ -1,6 +1,6 @@
 //! The sign in which each variable is assumed.
 
-ghost use Rattle.std.specs.Prelude.{◌≡◌, ℕ, ◌≤◌, nat_eq, if◌then◌else◌, Some, None, IfOk, OnOk, OnErr};
+ghost use Rattle.std.specs.Prelude.{◌≡◌, ℕ, nat_eq, if◌then◌else◌, Some, None, IfOk, OnOk, OnErr};
 ghost use Rattle.lrat_check.specs.Assuming.{sign_at};
 
 use ketch_base::OutOfMemory;

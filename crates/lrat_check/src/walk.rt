@@ -1,7 +1,7 @@
 //! The judgement of an addition: its negated literals are assumed, and its hints walked.
 
-ghost use Rattle.std.specs.Prelude.{◌≡◌, [], ◌∷◌, ◌++◌, neg_ℤ, map, false, IfOk};
-ghost use Rattle.cnf_base.specs.Judged.{judge, judged_by_open, is_tautology};
+ghost use Rattle.std.specs.Prelude.{◌≡◌, [], neg_ℤ, map, false, IfOk};
+ghost use Rattle.cnf_base.specs.Judged.{judge, is_tautology};
 ghost use Rattle.lrat_check.specs.FirstFault.{lemma_fault, hint_fault};
 ghost use Rattle.lrat_check.specs.Walking.{widened, named_id};
 

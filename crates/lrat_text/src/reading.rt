@@ -1,6 +1,6 @@
 //! Reading an LRAT text.
 
-ghost use Rattle.std.specs.Prelude.{◌≡◌, ℕ, List, ◌<◌, ◌^◌, length, IfOk, IfErr, Ok, Err};
+ghost use Rattle.std.specs.Prelude.{ℕ, List, ◌<◌, ◌^◌, length, IfOk, IfErr, Ok, Err};
 ghost use Rattle.text_words.specs.Lines.{lines};
 ghost use Rattle.lrat_text.specs.Lrat.{SpellsProof, IsFirstFault, IsFault, Answers};
 ghost use Rattle.lrat_text.specs.Reading.{Gives, reading};

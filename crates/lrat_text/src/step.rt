@@ -1,7 +1,7 @@
 //! The step that a line spells.
 
-ghost use Rattle.std.specs.Prelude.{◌≡◌, ◌∷◌, []};
-ghost use Rattle.lrat_text.specs.Reading.{GivesOnLine, list_from, literal_of, hint_of, deleted_of, at_end, addition_of, deletion_of, after_id, step_of};
+ghost use Rattle.std.specs.Prelude.{[]};
+ghost use Rattle.lrat_text.specs.Reading.{GivesOnLine, list_from, literal_of, hint_of, deleted_of, at_end, addition_of, deletion_of, step_of};
 
 use crate::fault::{LineFault, LratKind};
 use crate::proof::{Hints, Ids, LratStep};

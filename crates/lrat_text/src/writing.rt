@@ -1,6 +1,6 @@
 //! Writing a proof as an LRAT text.
 
-ghost use Rattle.std.specs.Prelude.{◌≡◌, ◌++◌, IfOk, OnOk, codes};
+ghost use Rattle.std.specs.Prelude.{◌≡◌, ◌++◌, IfOk, OnOk};
 ghost use Rattle.std.specs.List.{AllByRecursion, flat_map};
 ghost use Rattle.lrat_text.specs.Lrat.{SpellsProof, IsLiteral};
 ghost use Rattle.lrat_text.specs.Text.{proof_text, step_text, id_text, number_text, HasIdsAndHints, HasLiterals};

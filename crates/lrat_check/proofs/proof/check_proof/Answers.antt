@@ -1,7 +1,7 @@
 use Rattle.std.proofs.Common.{◌≡◌, rules, None, MatchResult}
 use Rattle.lrat_check.specs.Answers.{IsProofFault}
 use Rattle.lrat_check.specs.FirstFault.{first_fault}
-use Rattle.lrat_check.specs.Accepted.{Accepted}
+use Rattle.lrat_text.specs.Accepted.{Accepted}
 use Rattle.cnf_base.specs.Meaning.{HasNoModel}
 use Rattle.lrat_check.proofs.Agreeing.{accepted_without_fault}
 use Rattle.lrat_check.proofs.Answering.{OnOk-from_answer, IsOkUnless-from_answer}

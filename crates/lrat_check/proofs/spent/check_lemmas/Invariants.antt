@@ -1,7 +1,7 @@
 use Rattle.std.proofs.Common.{◌≡◌, take, drop}
 use Rattle.lrat_check.specs.Keying.{AreTaken}
 use Rattle.lrat_check.specs.SpentFault.{spent_from}
-use Rattle.lrat_check.specs.Standing.{start}
+use Rattle.lrat_text.specs.Standing.{start}
 use Rattle.lrat_check.proofs.Taking.{earlier_after}
 use Rattle.lrat_check.proofs.spent.check_lemmas.Given as goal
 

@@ -1,6 +1,6 @@
 use Rattle.std.proofs.Common.{◌≡◌, ℕ, ℤ, List, length, sym, subst, ap, ◌∙◌}
 use Rattle.lrat_check.specs.FirstFault.{delete_fault}
-use Rattle.lrat_check.specs.Standing.{Standing, with_deleted}
+use Rattle.lrat_text.specs.Standing.{Standing, with_deleted}
 use Rattle.lrat_check.specs.Storing.{live_of, killed_all, IsStore, first_dead}
 use Rattle.lrat_check.specs.declared.store.Entry.{Entry}
 use Rattle.lrat_check.proofs.Storing.{live_of-killed_all, no_delete_fault, delete_fault-dead}

@@ -1,10 +1,10 @@
 -- When a proof is accepted: the rule of LRAT without its RAT steps.
-use Rattle.std.specs.Prelude.{◌≡◌, ◌≢◌, ℕ, ◌<◌, IsTrue, IsFalse, ℤ, pos, negsuc, neg_ℤ, List, [], ◌∷◌, ◌++◌, map, Some, IsSome, ◌⊎◌}
+use Rattle.std.specs.Prelude.{◌≡◌, ℕ, ◌<◌, IsTrue, ℤ, pos, negsuc, neg_ℤ, List, [], ◌∷◌, ◌++◌, map, Some, IsSome, ◌⊎◌}
 use Rattle.cnf_base.specs.Judged.{has, IsPassedIn, IsRefutedIn, IsUnitIn}
 use Rattle.cnf_base.specs.Meaning.{CnfFormula}
 use Rattle.lrat_text.specs.declared.proof.LratStep.{LratStep}
 use Rattle.lrat_text.specs.declared.proof.LratStep.TheVariants.{Add, Delete}
-use Rattle.lrat_check.specs.Standing.{Standing, start, clause_at, without, after}
+use Rattle.lrat_text.specs.Standing.{Standing, start, clause_at, without, after}
 
 -- the hints, taken in order, end at a clause that is false: a clause with a true literal is passed over, and one with
 -- a single open literal and all others false adds this literal to what is assumed

@@ -4,8 +4,8 @@ use Rattle.cnf_base.specs.Judged.{has}
 use Rattle.cnf_base.specs.Meaning.{CnfFormula, IsWithin}
 use Rattle.lrat_text.specs.declared.proof.LratStep.{LratStep}
 use Rattle.lrat_text.specs.declared.proof.LratStep.TheVariants.{Add, Delete}
-use Rattle.lrat_check.specs.Standing.{Standing, start, with_clause}
-use Rattle.lrat_check.specs.Accepted.{IsBothWays, MayAdd}
+use Rattle.lrat_text.specs.Standing.{Standing, start, with_clause}
+use Rattle.lrat_text.specs.Accepted.{IsBothWays, MayAdd}
 
 -- two clauses with the same literals, in any order and number
 abbrev pub SameLiterals : List ℤ → List ℤ → Type 0
