@@ -8,5 +8,6 @@ pub mod PlacedGates
 pub mod Placing
 pub mod Queued
 pub mod Releasing
+pub mod Standing
 pub mod Times
 pub mod Uses

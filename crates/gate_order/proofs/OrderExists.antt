@@ -1,5 +1,5 @@
 -- Gates none of which depends on itself have an order.
-use Rattle.std.proofs.Common.{◌≡◌, ◌≢◌, ℕ, zero, suc, inl, inr, ◌⊎◌, ◌+◌, ◌-◌, ◌<◌, ◌≤◌, ◌&&◌, Bool, true, false, cond, min, nat_eq, nat_lt, nat_le, List, [], ◌∷◌, ◌++◌, map, length, get_or, take, arith, sym, ap, ◌∙◌, subst, refl, All, Contains}
+use Rattle.std.proofs.Common.{◌≡◌, ◌≢◌, ℕ, zero, suc, inl, inr, ◌⊎◌, ◌+◌, ◌<◌, ◌≤◌, ◌&&◌, Bool, true, false, cond, nat_eq, nat_lt, nat_le, List, [], ◌∷◌, ◌++◌, map, length, get_or, arith, sym, ap, ◌∙◌, subst, refl, All, Contains}
 use Rattle.std.specs.List.{AllByRecursion, range_with_len}
 use Rattle.std.specs.List.Sorted.{IsPermutation, IsNonDecreasingBy}
 use Rattle.std.proofs.lemmas.Bool.{cases_eq, cases_lt}
@@ -8,13 +8,13 @@ use Rattle.std.proofs.lemmas.List.{length_push, length-map, get_or-map}
 use Rattle.std.proofs.lemmas.List.FromFn.{get_or-map-range_with_len, length-map-range_with_len}
 use Rattle.std.proofs.lemmas.List.Elements.{All-nil, All-push, All-from_get_or, All-weaker, All-from_recursion, Contains-append_cases}
 use Rattle.std.proofs.lemmas.List.Sorted.{Contains-permutation, IsPermutation-refl, IsPermutation-sym, IsPermutation-trans, IsPermutation-cons, IsPermutation-middle}
-use Rattle.aig_model.specs.Literal.{var, number}
+use Rattle.aig_model.specs.Literal.{var}
 use Rattle.aig_model.specs.WellFormed.{left_sides, IsOrdered}
 use Rattle.aig_model.specs.declared.parts.AndGate.{AndGate}
-use Rattle.gate_order.specs.GateOrder.{DefineApart, IsGateOrder, IsAcyclic}
+use Rattle.gate_order.specs.GateOrder.{DefineApart, IsAcyclic}
 use Rattle.gate_order.specs.OrderLaws.{HaveOrder}
-use Rattle.gate_order.specs.SortedGates.{AreSorted, no_gate, gate_at, gates_at, input, IsNowhere, IsUseOf, AreUses}
-use Rattle.gate_order.specs.PlaceOrder.{times, blocked, waits_of, IsNextPlace, IsPlaceOrder, IsPlacing}
+use Rattle.gate_order.specs.SortedGates.{AreSorted, no_gate, gate_at, gates_at, input, IsUseOf, AreUses}
+use Rattle.gate_order.specs.PlaceOrder.{times, waits_of, IsPlaceOrder, IsPlacing}
 use Rattle.gate_order.specs.declared.order.sorted.Side.{Side}
 use Rattle.gate_order.specs.declared.order.sorted.Side.TheVariants.{Left, Right}
 use Rattle.gate_order.proofs.Times.{times-nil, times_push, equal_number, few_below}

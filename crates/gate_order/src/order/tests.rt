@@ -5,6 +5,7 @@ ghost use Rattle.std.specs.List.Sorted.{IsStrictlyIncreasing};
 ghost use Rattle.aig_model.specs.WellFormed.{left_sides};
 ghost use Rattle.gate_order.specs.GateOrder.{DefineApart};
 
+use crate::order::standing::stand_in_order;
 use crate::{OrderFault, order_gates};
 use aig_model::{AndGate, Gates, Lit};
 use ketch_base::OutOfMemory;
@@ -76,32 +77,68 @@ fn order(rt: &impl Abort, alloc: Global, lines: &[Line]) -> Result<Vec<u32>, Ord
 struct Case {
     lines: &'static [Line],
     sides: &'static [u32],
+    /// Whether the left sides rise, each above the inputs of its gate.
+    in_order: bool,
 }
 
-const CASES: [Case; 5] = [
+const CASES: [Case; 10] = [
     Case {
         lines: &[],
         sides: &[],
+        in_order: true,
+    },
+    // gates in order, as most files have them
+    Case {
+        lines: &[(6, 2, 5), (8, 6, 7), (12, 9, 3), (14, 12, 6)],
+        sides: &[6, 8, 12, 14],
+        in_order: true,
+    },
+    // the same, but for two lines
+    Case {
+        lines: &[(6, 2, 5), (8, 6, 7), (14, 12, 6), (12, 9, 3)],
+        sides: &[6, 8, 12, 14],
+        in_order: false,
+    },
+    // left sides that rise, but a gate that uses a later one on either side
+    Case {
+        lines: &[(6, 2, 5), (8, 13, 7), (12, 2, 3), (14, 8, 6)],
+        sides: &[6, 12, 8, 14],
+        in_order: false,
+    },
+    Case {
+        lines: &[(6, 2, 5), (8, 6, 12), (12, 2, 3), (14, 8, 6)],
+        sides: &[6, 12, 8, 14],
+        in_order: false,
+    },
+    // the order of the file, though an input that is no gate is above its gate
+    Case {
+        lines: &[(6, 20, 5), (8, 6, 21)],
+        sides: &[6, 8],
+        in_order: false,
     },
     // the least left side that is ready, not the first line
     Case {
         lines: &[(8, 4, 10), (10, 13, 15), (12, 2, 6), (14, 3, 7)],
         sides: &[12, 14, 10, 8],
+        in_order: false,
     },
     // a chain from its end, through negated inputs
     Case {
         lines: &[(20, 19, 17), (18, 17, 2), (16, 15, 3), (14, 2, 3)],
         sides: &[14, 16, 18, 20],
+        in_order: false,
     },
     // both inputs of one gate, and a gate that becomes ready before a greater one
     Case {
         lines: &[(12, 10, 11), (6, 12, 13), (10, 2, 2), (14, 0, 1)],
         sides: &[10, 12, 6, 14],
+        in_order: false,
     },
     // variable 0 is no gate unless a gate defines it
     Case {
         lines: &[(2, 0, 1), (0, 4, 4)],
         sides: &[0, 2],
+        in_order: false,
     },
 ];
 
@@ -110,7 +147,7 @@ struct Looped {
     lhs: u32,
 }
 
-const LOOPED: [Looped; 5] = [
+const LOOPED: [Looped; 7] = [
     Looped {
         lines: &[(4, 6, 2), (6, 4, 2)],
         lhs: 4,
@@ -122,6 +159,15 @@ const LOOPED: [Looped; 5] = [
     },
     Looped {
         lines: &[(8, 9, 2), (6, 2, 2)],
+        lhs: 8,
+    },
+    // the last of gates whose left sides rise
+    Looped {
+        lines: &[(4, 2, 3), (6, 4, 2), (8, 9, 6)],
+        lhs: 8,
+    },
+    Looped {
+        lines: &[(4, 2, 3), (6, 4, 2), (8, 6, 8)],
         lhs: 8,
     },
     // a gate that only depends on a cycle has the least left side
@@ -141,6 +187,15 @@ fn gates_are_ordered(rt: HostRuntime) -> Result<(), Fail> {
     for case in &CASES {
         let sides = order(&rt, rt.alloc(), case.lines)?;
         assert_eq!(rt; sides.as_slice(), case.sides);
+    }
+    Ok(())
+}
+
+#[test]
+fn gates_in_order_are_seen(rt: HostRuntime) -> Result<(), Fail> {
+    for case in &CASES {
+        let gates = gates(rt.alloc(), case.lines)?;
+        assert_eq!(rt; stand_in_order(gates.as_slice()), case.in_order);
     }
     Ok(())
 }

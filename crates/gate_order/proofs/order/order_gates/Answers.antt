@@ -1,18 +1,19 @@
-use Rattle.std.specs.List.Sorted.{IsPermutation}
-use Rattle.gate_order.proofs.Answered.{answer_order, answer_ordered, answer_ok, answer_cycle}
+use Rattle.std.proofs.Common.{IfOk, IfErr}
+use Rattle.gate_order.specs.GateOrder.{IsGateOrder, IsFault}
+use Rattle.gate_order.proofs.Answered.{answer_ordered, answer_ok, answer_cycle}
 use Rattle.gate_order.proofs.order.order_gates.Goals as goal
 
-sorted_same : (c : goal.After-drop-sorted) → IsPermutation c.args.gates.now c.as_slice-2.result.now
-sorted_same c = rw (c.as_slice-2.ensures.value, ← c.as_slice.ensures) c.in_ok-sorted.ensures.same
+is_order : (c : goal.After-order_or_fault) → IfOk c.order_or_fault.result (IsGateOrder c.args.gates.now)
+is_order c = rw (← c.as_slice.ensures) c.order_or_fault.ensures.order
 
-pub returns-clause-order : goal.returns-clause-order
-returns-clause-order c = answer_order _ _ c.requires (sorted_same c) _ c.order_sorted.ensures.order
+is_fault : (c : goal.After-order_or_fault) → IfErr c.order_or_fault.result (IsFault c.args.gates.now)
+is_fault c = rw (← c.as_slice.ensures) c.order_or_fault.ensures.cycle
 
 pub returns-clause-ordered : goal.returns-clause-ordered
-returns-clause-ordered c = answer_ordered _ _ c.requires (sorted_same c) _ c.order_sorted.ensures.order
+returns-clause-ordered c = answer_ordered _ c.requires _ (is_order c)
 
 pub returns-clause-ok : goal.returns-clause-ok
-returns-clause-ok c = answer_ok _ _ c.requires (sorted_same c) _ c.order_sorted.ensures.order c.order_sorted.ensures.cycle
+returns-clause-ok c = answer_ok _ c.requires _ (is_order c) (is_fault c)
 
 pub returns-clause-cycle : goal.returns-clause-cycle
-returns-clause-cycle c = answer_cycle _ _ c.requires (sorted_same c) _ c.order_sorted.ensures.order c.order_sorted.ensures.cycle
+returns-clause-cycle c = answer_cycle _ c.requires _ (is_order c) (is_fault c)
