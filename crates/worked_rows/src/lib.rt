@@ -1,4 +1,4 @@
-//! Worked rows: whole runs over devices in memory, tested as a user would see them.
+//! Worked rows, as tests: whole runs over devices in memory, as a user would see them, and circuits by hand.
 #![tactic(auto)]
 
 mod setting;
@@ -7,6 +7,8 @@ pub use setting::{Outcome, Setting};
 
 #[cfg(test)]
 mod devices;
+#[cfg(test)]
+mod evaluation;
 #[cfg(test)]
 mod lrat_rows;
 #[cfg(test)]
