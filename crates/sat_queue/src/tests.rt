@@ -78,6 +78,31 @@ fn moves_as_a_plain_list_does(rt: HostRuntime) -> Result<(), Fail> {
     Ok(())
 }
 
+fn front(rt: &impl Abort, queue: &mut VarQueue, var: u32) {
+    assert!(rt; 0 < var && var <= queue.vars());
+    queue.to_front(var);
+}
+
+/// The variables before and after one.
+fn beside(rt: &impl Abort, queue: &VarQueue, var: u32) -> (Option<u32>, Option<u32>) {
+    assert!(rt; 0 < var && var <= queue.vars());
+    (queue.before(var), queue.after(var))
+}
+
+#[test]
+fn moved_variables_stand_in_front(rt: HostRuntime) -> Result<(), Fail> {
+    let mut queue = VarQueue::new(rt.alloc(), 4)?;
+    for var in [3, 3, 1, 4] {
+        front(&rt, &mut queue, var);
+    }
+    assert_eq!(rt; queue.first(), Some(4));
+    assert_eq!(rt; beside(&rt, &queue, 4), (None, Some(1)));
+    assert_eq!(rt; beside(&rt, &queue, 1), (Some(4), Some(3)));
+    assert_eq!(rt; beside(&rt, &queue, 3), (Some(1), Some(2)));
+    assert_eq!(rt; beside(&rt, &queue, 2), (Some(3), None));
+    Ok(())
+}
+
 fn decide(rt: &impl Abort, trail: &mut Trail, value: i32) {
     assert!(rt; value != 0);
     let lit = CnfLit::new(value);
@@ -106,5 +131,7 @@ fn the_first_unassigned_is_next(rt: HostRuntime) -> Result<(), Fail> {
     assert_eq!(rt; next_unset(&rt, &queue, &trail), None);
     let none = VarQueue::new(rt.alloc(), 0)?;
     assert_eq!(rt; (none.first(), none.vars()), (None, 0));
+    let nothing = Trail::new(rt.alloc(), 0)?;
+    assert_eq!(rt; next_unset(&rt, &none, &nothing), None);
     Ok(())
 }

@@ -2,3 +2,4 @@ pub mod Climbing
 pub mod Valuing
 pub mod Keeping
 pub mod Reading
+pub mod Consistent

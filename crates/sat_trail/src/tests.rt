@@ -60,6 +60,7 @@ fn a_trail_grows_and_goes_back(rt: HostRuntime) -> Result<(), Fail> {
         (Value::True, Some(1), Some(ClauseId::Book(7)))
     );
     assert!(rt; 1 <= trail.level());
+    assert_eq!(rt; (trail.len_upto(0), trail.len_upto(1)), (1, 3));
     trail.back_to(1);
     assert_eq!(rt; (trail.len(), trail.level(), trail.low()), (3, 1, 2));
     assert_eq!(rt; seen(&rt, &trail, 4), (Value::Unset, None, None));

@@ -172,10 +172,29 @@ impl Trail {
         self.count
     }
 
+    /// How many literals the trail holds up to this level.
+    pub fn len_upto(&self, level: u32) -> u32
+        requires { level ≤ self.now.level }
+        ensures { result ≡ length (upto level self.now.puts) }
+    {
+        if level < self.level {
+            self.ends[level as usize]
+        } else {
+            self.count
+        }
+    }
+
     pub fn is_empty(&self) -> bool
         ensures { IsTrue result ↔ (self.now.puts ≡ []) }
     {
         self.count == 0
+    }
+
+    /// In the order in which they were put.
+    pub fn literals(&self) -> &[CnfLit]
+        ensures { result.now ≡ lits self.now.puts }
+    {
+        between(&self.lits, 0, self.count)
     }
 
     /// The literals stand in the order in which they were put.
