@@ -1,0 +1,11 @@
+pub mod Puts
+pub mod Refuting
+pub mod Counting
+pub mod Antecedents
+pub mod Marking
+pub mod Tracked
+pub mod ResolveStep
+pub mod AtRoot
+pub mod Concluding
+pub mod Conflicts
+pub mod Reasoned

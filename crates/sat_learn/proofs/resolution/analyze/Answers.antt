@@ -1,0 +1,42 @@
+use Rattle.std.proofs.Common.{◌≡◌, ◌+◌, [], ◌∷◌, ◌++◌, List, ℤ, length, ap, sym, ◌∙◌, subst, arith}
+use mir.Syntax.{w64}
+use Rattle.std.proofs.lemmas.Int.{to_z-of_z}
+use Rattle.sat_learn.specs.Tracking.{IsResolved}
+use Rattle.sat_learn.proofs.Tracked.{track_begun}
+use Rattle.sat_learn.proofs.Conflicts.{conflict_open, conflict_marked, resolved_from, conflict_refutes}
+use Rattle.sat_learn.proofs.resolution.analyze.Goals as goal
+
+pub note_all-requires-clause-tracked : goal.note_all-requires-clause-tracked
+note_all-requires-clause-tracked c =
+    let begun = c.new_analysis-analysis.ensures in
+    let a = c.new_analysis-analysis.result in
+    track_begun c.args.trail.now c.args.marks.now a.kept.items a.rooted a.open_count begun.kept begun.rooted begun.count c.requires.above c.requires.room c.requires.unmarked
+
+pub resolve_present-requires-clause-count : goal.resolve_present-requires-clause-count
+resolve_present-requires-clause-count c =
+    let a = c.note_all.new.analysis in
+    let marked = conflict_marked c.args.marks.now c.note_all.new.marks c.args.conflict.now c.in_ok-note_all.ensures.marks in
+    conflict_open c.args.trail.now c.note_all.new.marks a.kept.items a.rooted a.open_count c.args.conflict.now c.requires.explained.trail c.in_ok-note_all.ensures.tracked marked c.requires.false_now c.requires.not_before
+
+pub conclude-requires-clause-resolved : goal.conclude-requires-clause-resolved
+conclude-requires-clause-resolved c =
+    let t = c.args.trail.now in
+    let a = c.resolve_present.new.analysis in
+    let after = c.resolve_any_roots.new.marks in
+    let room : length after ≡ t.vars + 1 = omega (arith, c.requires.room, c.note_all.auto.marks, c.resolve_present.auto.marks, c.resolve_any_roots.auto.marks) in
+    let P : List ℤ → Type 0 = λ ls. IsResolved t after ls c.in_ok-place.place in
+    subst P (ap (λ v. v.items) (sym c.in_ok-resolve_any_roots.ensures.kept))
+    (resolved_from t c.resolve_present.new.marks after a.kept.items a.rooted a.open_count c.in_ok-place.place c.requires.explained.trail c.in_ok-place.ensures.tracked c.in_ok-place.ensures.count c.in_ok-place.ensures.last c.in_ok-resolve_any_roots.ensures.clear c.in_ok-resolve_any_roots.ensures.others room)
+
+pub returns-clause-follows : goal.returns-clause-follows
+returns-clause-follows c live id hint_is called conflict_called =
+    let t = c.args.trail.now in
+    let hints = c.note_all.new.analysis.hints.items in
+    let pushed : hints ≡ [] ++ c.args.hint ∷ [] =
+    ap (λ v. v.items) c.in_ok-note_all.ensures.hints ∙ c.in_ok-push.ensures.items
+    ∙ ap (λ z. c.new_analysis-analysis.result.hints.items ++ z ∷ []) (to_z-of_z w64 c.args.hint c.ranges.hint) ∙ ap (λ xs. xs ++ c.args.hint ∷ []) c.new_analysis-analysis.ensures.hints in
+    let marked = conflict_marked c.args.marks.now c.note_all.new.marks c.args.conflict.now c.in_ok-note_all.ensures.marks in
+    let begun = conflict_refutes t live c.args.conflict.now id c.args.hint c.note_all.new.marks hints c.requires.explained.trail c.requires.false_now conflict_called hint_is pushed marked in
+    let present = c.in_ok-place.ensures.resolves live called begun in
+    let roots = c.in_ok-resolve_any_roots.ensures.resolves live called present in
+    c.in_ok-lesson.ensures.follows live roots

@@ -1,0 +1,17 @@
+use Rattle.std.proofs.Common.{◌≤◌, length}
+use Rattle.sat_trail.specs.Trail.{upto}
+use Rattle.sat_learn.specs.Resolving.{AreRootsClear, DifferAtRoots, Resolves}
+use Rattle.sat_learn.proofs.roots.resolve_roots.Given as goal
+
+-- the literals of level 0 from the place on aren't marked
+abbrev pub invariant-loop-place : goal.invariant-loop-place
+invariant-loop-place l =
+    record {
+      within : l.place ≤ length (upto 0 l.trail.puts);
+      clear : AreRootsClear l.trail.puts l.marks l.place;
+      others : DifferAtRoots l.trail.puts l.initial.marks l.marks;
+      resolves : Resolves l.book.clauses l.names l.trail.puts l.initial.marks l.initial.hints.items l.marks l.hints.items;
+    }
+
+abbrev pub decreases-loop-place : goal.decreases-loop-place
+decreases-loop-place l = l.place

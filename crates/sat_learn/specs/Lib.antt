@@ -1,0 +1,4 @@
+pub mod Lesson
+pub mod Reasons
+pub mod Resolving
+pub mod Tracking

@@ -1,0 +1,41 @@
+//! The clause that a literal was put for.
+
+ghost use Rattle.std.specs.Prelude.{◌≡◌, ◌<◌, length};
+ghost use Rattle.sat_trail.specs.Trail.{Put};
+ghost use Rattle.sat_learn.specs.Resolving.{StandsAt, IsExplained, IsForcedAt, IsAntecedent};
+
+use cnf_base::CnfLit;
+use sat_trail::{ClauseId, Trail};
+use sat_watch::ClauseBook;
+
+/// A clause's literals, where one that is forced by a unit clause may be left out, and the hint for the clause.
+#[derive(Clone, Copy, Debug)]
+pub struct Antecedent<'a> {
+    pub lits: &'a [CnfLit],
+    pub hint: i64,
+}
+
+pub fn antecedent_of<'a>(
+    trail: &Trail,
+    book: &'a ClauseBook,
+    names: &[u64],
+    place: u32,
+) -> Antecedent<'a>
+    requires explained { IsExplained book.now.clauses names.now trail.now }
+    requires forced { IsForcedAt trail.now.puts place }
+    ensures { (p : Put) → StandsAt trail.now.puts place p
+        → IsAntecedent book.now.clauses names.now trail.now.puts place p result.lits.now result.hint }
+{
+    let var = trail.at(place).var();
+    match trail.reason_of(var) {
+        Some(ClauseId::Book(at)) => Antecedent {
+            lits: book.clause(ClauseId::Book(at)).as_slice(),
+            hint: names[at as usize] as i64,
+        },
+        Some(ClauseId::Unit(id)) => Antecedent {
+            lits: &[],
+            hint: id as i64,
+        },
+        None => unreachable!(),
+    }
+}

@@ -1,0 +1,101 @@
+//! A conflict resolved, from the clause that is false to what follows.
+
+ghost use Rattle.std.specs.Prelude.{◌≡◌, ℕ, ℤ, List, ◌+◌, ◌-◌, ◌<◌, false, neg_ℤ, map, length, pos, [], slice_index_or, IfOk, OnOk};
+ghost use Rattle.cnf_base.specs.Judged.{IsRefutedIn};
+ghost use Rattle.lrat_text.specs.Accepted.{Ends};
+ghost use Rattle.sat_trail.specs.Trail.{lits, upto};
+ghost use Rattle.sat_learn.specs.Reasons.{IsCalled, AreCalled};
+ghost use Rattle.sat_learn.specs.Lesson.{IsLesson};
+ghost use Rattle.sat_learn.specs.Resolving.{Resolves, IsExplained, AreRootsClear, DifferAtRoots};
+ghost use Rattle.sat_learn.specs.Tracking.{IsTracked};
+
+use crate::analysis::{Analysis, new_analysis, note_all};
+use crate::conclusion::conclude;
+use crate::lesson::{Lesson, in_order};
+use crate::marks::mark_all;
+use crate::point::resolve_present;
+use crate::roots::resolve_roots;
+use cnf_base::CnfLit;
+use ketch_base::OutOfMemory;
+use lrat_text::Hints;
+use sat_trail::Trail;
+use sat_watch::ClauseBook;
+use std::alloc::Global;
+
+/// Resolves the literals of level 0, if one is marked.
+fn resolve_any_roots(
+    trail: &Trail,
+    book: &ClauseBook,
+    names: &[u64],
+    marks: &mut [bool],
+    analysis: &mut Analysis,
+) -> Result<(), OutOfMemory>
+    requires explained { IsExplained book.now.clauses names.now trail.now }
+    requires above { 0 < trail.now.level }
+    requires tracked { IsTracked trail.now marks.old analysis.old.kept.items analysis.old.rooted analysis.old.open_count }
+    ensures clear { OnOk result (AreRootsClear trail.now.puts marks.new 0) }
+    ensures others { OnOk result (DifferAtRoots trail.now.puts marks.old marks.new) }
+    ensures kept { analysis.new.kept ≡ analysis.old.kept }
+    ensures resolves { OnOk result (Resolves book.now.clauses names.now trail.now.puts marks.old analysis.old.hints.items marks.new analysis.new.hints.items) }
+{
+    if analysis.rooted {
+        resolve_roots(trail, book, names, marks, &mut analysis.hints)?;
+    }
+    Ok(())
+}
+
+/// The lesson of a conflict above level 0, where no variable is marked before or after.
+pub fn analyze(
+    alloc: Global,
+    trail: &Trail,
+    book: &ClauseBook,
+    names: &[u64],
+    marks: &mut [bool],
+    conflict: &[CnfLit],
+    hint: i64,
+) -> Result<Lesson, OutOfMemory>
+    requires explained { IsExplained book.now.clauses names.now trail.now }
+    requires above { 0 < trail.now.level }
+    requires room { length marks.old ≡ trail.now.vars + 1 }
+    requires unmarked { (v : ℕ) → slice_index_or marks.old v false ≡ false }
+    requires false_now { IsRefutedIn (lits trail.now.puts) conflict.now }
+    requires not_before { ¬ IsRefutedIn (lits (upto (trail.now.level - 1) trail.now.puts)) conflict.now }
+    ensures unmarked { OnOk result ((v : ℕ) → slice_index_or marks.new v false ≡ false) }
+    ensures lesson { IfOk result (IsLesson trail.now) }
+    ensures follows { IfOk result (λ lesson. (live : List (ℕ × List ℤ)) (id : ℕ) → hint ≡ pos id → AreCalled live book.now.clauses names.now trail.now.puts
+        → IsCalled live id conflict.now → Ends live (map neg_ℤ lesson.lits) lesson.hints) }
+{
+    let mut analysis = new_analysis(alloc);
+    analysis.hints.push(hint)?;
+    note_all(trail, marks, &mut analysis, conflict)?;
+    let place = resolve_present(trail, book, names, marks, &mut analysis)?;
+    resolve_any_roots(trail, book, names, marks, &mut analysis)?;
+    let lesson = conclude(trail, marks, analysis, place)?;
+    Ok(lesson)
+}
+
+/// The hints by which the empty clause follows at level 0, where no variable is marked before or after.
+pub fn refute_marked(
+    alloc: Global,
+    trail: &Trail,
+    book: &ClauseBook,
+    names: &[u64],
+    marks: &mut [bool],
+    conflict: &[CnfLit],
+    hint: i64,
+) -> Result<Hints, OutOfMemory>
+    requires explained { IsExplained book.now.clauses names.now trail.now }
+    requires at_root { trail.now.level ≡ 0 }
+    requires room { length marks.old ≡ trail.now.vars + 1 }
+    requires unmarked { (v : ℕ) → slice_index_or marks.old v false ≡ false }
+    requires false_now { IsRefutedIn (lits trail.now.puts) conflict.now }
+    ensures unmarked { OnOk result ((v : ℕ) → slice_index_or marks.new v false ≡ false) }
+    ensures follows { IfOk result (λ hints. (live : List (ℕ × List ℤ)) (id : ℕ) → hint ≡ pos id → AreCalled live book.now.clauses names.now trail.now.puts
+        → IsCalled live id conflict.now → Ends live [] hints) }
+{
+    let mut hints = Vec::new(alloc);
+    hints.push(hint)?;
+    mark_all(marks, conflict);
+    resolve_roots(trail, book, names, marks, &mut hints)?;
+    Ok(in_order(hints))
+}

@@ -1,0 +1,59 @@
+//! Literals of level 0, which are resolved away.
+
+ghost use Rattle.std.specs.Prelude.{◌≡◌, ◌+◌, ◌<◌, length, OnOk};
+ghost use Rattle.sat_trail.specs.Trail.{Put};
+ghost use Rattle.sat_learn.specs.Resolving.{StandsAt, Resolves, IsExplained, AreRootsClear, DifferAtRoots};
+
+use crate::antecedent::antecedent_of;
+use crate::marks::mark_all;
+use ketch_base::OutOfMemory;
+use sat_trail::Trail;
+use sat_watch::ClauseBook;
+
+/// Resolves the literal at this place, which is marked and of level 0.
+fn resolve_root(
+    trail: &Trail,
+    book: &ClauseBook,
+    names: &[u64],
+    marks: &mut [bool],
+    hints: &mut Vec<i64>,
+    place: u32,
+) -> Result<(), OutOfMemory>
+    requires explained { IsExplained book.now.clauses names.now trail.now }
+    requires room { length marks.old ≡ trail.now.vars + 1 }
+    requires root { (p : Put) × StandsAt trail.now.puts place p × (p.level ≡ 0) }
+    requires clear { AreRootsClear trail.now.puts marks.old (place + 1) }
+    ensures clear { OnOk result (AreRootsClear trail.now.puts marks.new place) }
+    ensures others { OnOk result (DifferAtRoots trail.now.puts marks.old marks.new) }
+    ensures resolves { OnOk result (Resolves book.now.clauses names.now trail.now.puts marks.old hints.old.items marks.new hints.new.items) }
+{
+    let found = antecedent_of(trail, book, names, place);
+    hints.push(found.hint)?;
+    mark_all(marks, found.lits);
+    marks[trail.at(place).var() as usize] = false;
+    Ok(())
+}
+
+/// Resolves each literal of level 0 that is marked.
+pub fn resolve_roots(
+    trail: &Trail,
+    book: &ClauseBook,
+    names: &[u64],
+    marks: &mut [bool],
+    hints: &mut Vec<i64>,
+) -> Result<(), OutOfMemory>
+    requires explained { IsExplained book.now.clauses names.now trail.now }
+    requires room { length marks.old ≡ trail.now.vars + 1 }
+    ensures clear { OnOk result (AreRootsClear trail.now.puts marks.new 0) }
+    ensures others { OnOk result (DifferAtRoots trail.now.puts marks.old marks.new) }
+    ensures resolves { OnOk result (Resolves book.now.clauses names.now trail.now.puts marks.old hints.old.items marks.new hints.new.items) }
+{
+    let mut place = trail.len_upto(0);
+    while place > 0 {
+        place -= 1;
+        if marks[trail.at(place).var() as usize] {
+            resolve_root(trail, book, names, marks, hints, place)?;
+        }
+    }
+    Ok(())
+}
