@@ -1,0 +1,132 @@
+-- A clause that is held: what stands, and what propagation asks for.
+use Rattle.std.proofs.Common.{◌≡◌, ◌≢◌, ℕ, ◌+◌, ◌<◌, ◌^◌, true, false, ℤ, neg_ℤ, Some, List, [], ◌∷◌, ◌++◌, length, refl, ap, sym, ◌∙◌, subst, arith, inl, inr}
+use Rattle.std.specs.List.{Contains}
+use Rattle.std.proofs.lemmas.Bool.{or_left, or_right, both_ways}
+use Rattle.std.proofs.lemmas.List.{length_push}
+use Rattle.std.proofs.lemmas.List.Elements.{All-push, Contains-push_cases, Contains-push}
+use Rattle.cnf_base.specs.Judged.{has, IsRefutedIn, IsUnitIn}
+use Rattle.cnf_base.proofs.Literals.{has-head, has-append}
+use Rattle.sat_trail.specs.declared.clause_id.ClauseId.TheVariants as ids
+use Rattle.sat_trail.specs.Trail.{Put, TrailState, lits, upto, IsTrail}
+use Rattle.sat_trail.proofs.Climbing.{Climbs-push, upto-all}
+use Rattle.sat_watch.specs.Book.{BookState}
+use Rattle.sat_watch.specs.Ready.{IsReady}
+use Rattle.sat_watch.proofs.Readiness.{followed_more}
+use Rattle.sat_watch.proofs.Spreading.{lits-append}
+use Rattle.sat_learn.specs.Reasons.{IsCalled}
+use Rattle.sat_solver.specs.Keeping.{Holds}
+use Rattle.sat_solver.specs.Sound.{IsCovered, IsSound}
+use Rattle.sat_solver.proofs.Growing.{AreReasons-more_clauses, AreReasons-push, AreCalled-more_clauses, AreCalled-unit, IsCovered-more_clauses, IsCovered-more_roots}
+
+-- ---- what stands
+
+covered_push : (clauses done : List (List ℤ)) (roots lemma clause : List ℤ) → ((c : List ℤ) → Contains done c → IsCovered clauses roots c) → IsCovered clauses roots lemma → Contains (done ++ lemma ∷ []) clause → IsCovered clauses roots clause
+covered_push clauses done roots lemma clause old new inside =
+    let P : List ℤ → Type 0 = λ c. IsCovered clauses roots c in
+    elim (Contains-push_cases done lemma clause inside) [
+      | inl h ↦ old clause h
+      | inr e ↦ subst P e new
+    ]
+
+roots_more : (t : TrailState) (p : Put) (l : ℤ) → IsTrail t → t.level ≡ 0 → has (lits (upto 0 t.puts)) l ≡ true → has (lits (t.puts ++ p ∷ [])) l ≡ true
+roots_more t p l trail root h =
+    let P : List Put → Type 0 = λ ps. has (lits ps) l ≡ true in
+    let whole = subst P (upto-all 0 0 t.puts t.level trail.climbs (omega arith)) h in
+    ap (λ ls. has ls l) (lits-append t.puts (p ∷ [])) ∙ has-append (lits t.puts) (p.lit ∷ []) l ∙ or_left (has (lits t.puts) l) (has (p.lit ∷ []) l) whole
+
+-- a unit clause, put at level 0
+sound_unit : (vars : ℕ) (live : List (ℕ × List ℤ)) (done : List (List ℤ)) (names : List ℕ) (b : BookState) (t : TrailState) (id : ℕ) (l : ℤ) → IsSound vars live done names b t → IsTrail t → t.level ≡ 0 → id < 2 ^ 62 → IsCalled live id (l ∷ []) → IsSound vars live (done ++ (l ∷ []) ∷ []) names b (record { vars = t.vars; puts = t.puts ++ record { lit = l; level = t.level; reason = Some (ids.Unit id) } ∷ []; level = t.level; low = t.low })
+sound_unit vars live done names b t id l s trail root small called =
+    let p : Put = record { lit = l; level = t.level; reason = Some (ids.Unit id) } in
+    let whole : upto 0 (t.puts ++ p ∷ []) ≡ t.puts ++ p ∷ [] = upto-all 0 0 (t.puts ++ p ∷ []) t.level (Climbs-push 0 t.puts t.level p trail.climbs refl) (omega arith) in
+    let R : List Put → Type 0 = λ ps. (c : List ℤ) → Contains (done ++ (l ∷ []) ∷ []) c → IsCovered b.clauses (lits ps) c in
+    let here : has (lits (t.puts ++ p ∷ [])) l ≡ true = ap (λ ls. has ls l) (lits-append t.puts (p ∷ [])) ∙ has-append (lits t.puts) (l ∷ []) l ∙ or_right (has (lits t.puts) l) (has (l ∷ []) l) (has-head l []) in
+    record {
+      book_vars = s.book_vars;
+      trail_vars = s.trail_vars;
+      reasons = AreReasons-push b.clauses t.puts p s.reasons small;
+      called = AreCalled-unit live b.clauses names t.puts p id s.called refl called;
+      one_name = s.one_name;
+      small_names = s.small_names;
+      covered = subst R (sym whole) (λ c inside. covered_push b.clauses done (lits (t.puts ++ p ∷ [])) (l ∷ []) c
+          (λ old k. IsCovered-more_roots b.clauses (lits (upto 0 t.puts)) (lits (t.puts ++ p ∷ [])) old (λ x h. roots_more t p x trail root h) (s.covered old k))
+          (inr (inl (l, (λ x. refl), here))) inside);
+    }
+
+-- a clause of two literals or more, at the end of the book
+sound_clause : (vars : ℕ) (live : List (ℕ × List ℤ)) (done : List (List ℤ)) (names : List ℕ) (b : BookState) (t : TrailState) (id : ℕ) (clause : List ℤ) → IsSound vars live done names b t → id < 2 ^ 62 → IsCalled live id clause → IsSound vars live (done ++ clause ∷ []) (names ++ id ∷ []) (record { vars = b.vars; clauses = b.clauses ++ clause ∷ []; seen = b.seen }) t
+sound_clause vars live done names b t id clause s small called =
+    record {
+      book_vars = s.book_vars;
+      trail_vars = s.trail_vars;
+      reasons = AreReasons-more_clauses b.clauses (clause ∷ []) [] t.puts s.reasons;
+      called = AreCalled-more_clauses live b.clauses names t.puts clause id s.one_name s.called called;
+      one_name = length_push names id ∙ ap (λ n. n + 1) s.one_name ∙ sym (length_push b.clauses clause);
+      small_names = All-push (λ name. name < 2 ^ 62) names id s.small_names small;
+      covered = λ c inside. covered_push (b.clauses ++ clause ∷ []) done (lits (upto 0 t.puts)) clause c
+          (λ old k. IsCovered-more_clauses b.clauses (clause ∷ []) (lits (upto 0 t.puts)) old (s.covered old k))
+          (inr (inr (clause, Contains-push b.clauses clause, (λ x. refl)))) inside;
+    }
+
+pub sound_held : (vars : ℕ) (live : List (ℕ × List ℤ)) (done : List (List ℤ)) (names names' : List ℕ) (b b' : BookState) (t t' : TrailState) (id : ℕ) (lemma : List ℤ) → IsSound vars live done names b t → IsTrail t → (length lemma ≡ 1 → t.level ≡ 0) → id < 2 ^ 62 → IsCalled live id lemma → Holds lemma id b t names b' t' names' → IsSound vars live (done ++ lemma ∷ []) names' b' t'
+sound_held vars live done names names' b b' t t' id lemma s trail root small called (inl h) =
+    let l = h.0 in
+    let P : List ℤ → BookState → TrailState → List ℕ → Type 0 = λ c x y ns. IsSound vars live (done ++ c ∷ []) ns x y in
+    let C : List ℤ → Type 0 = λ c. IsCalled live id c in
+    let made = sound_unit vars live done names b t id l s trail (root (ap length h.1)) small (subst C h.1 called) in
+    let put : TrailState = record { vars = t.vars; puts = t.puts ++ record { lit = l; level = t.level; reason = Some (ids.Unit id) } ∷ []; level = t.level; low = t.low } in
+    subst (λ c. P c b' t' names') (sym h.1) (subst (λ x. P (l ∷ []) x t' names') (sym h.3) (subst (λ y. P (l ∷ []) b y names') (sym h.2) (subst (λ ns. P (l ∷ []) b put ns) (sym h.4) made)))
+sound_held vars live done names names' b b' t t' id lemma s trail root small called (inr h) =
+    let P : BookState → TrailState → List ℕ → Type 0 = λ x y ns. IsSound vars live (done ++ lemma ∷ []) ns x y in
+    let made = sound_clause vars live done names b t id lemma s small called in
+    let more : BookState = record { vars = b.vars; clauses = b.clauses ++ lemma ∷ []; seen = b.seen } in
+    subst (λ y. P b' y names') (sym h.1) (subst (λ x. P x t names') (sym h.2) (subst (λ ns. P more t ns) (sym h.3) made))
+
+-- ---- what propagation asks for
+
+-- where two literals are open, a clause is neither false nor unit
+two_open : (under clause : List ℤ) (first second : ℤ) → has clause first ≡ true → has clause second ≡ true → first ≢ second → has under (neg_ℤ first) ≡ false → has under (neg_ℤ second) ≡ false → (l : ℤ) → ¬ IsUnitIn under clause l
+two_open under clause first second first_in second_in apart first_open second_open l unit =
+    let is_first : (first ≡ l → ⊥) → ⊥ = λ ne. both_ways (has under (neg_ℤ first)) first_open (unit.others first first_in ne).1 in
+    let is_second : (second ≡ l → ⊥) → ⊥ = λ ne. both_ways (has under (neg_ℤ second)) second_open (unit.others second second_in ne).1 in
+    is_first (λ e. is_second (λ f. apart (e ∙ sym f)))
+
+pub record HasTwoOpen (under clause : List ℤ) : Type 0 where
+  pub first : ℤ
+  pub second : ℤ
+  pub first_in : has clause first ≡ true
+  pub second_in : has clause second ≡ true
+  pub apart : first ≢ second
+  pub first_open : has under (neg_ℤ first) ≡ false
+  pub second_open : has under (neg_ℤ second) ≡ false
+
+not_refuted : (under clause : List ℤ) → HasTwoOpen under clause → ¬ IsRefutedIn under clause
+not_refuted under clause h refuted = both_ways (has under (neg_ℤ h.first)) h.first_open (refuted h.first h.first_in).1
+
+-- a clause that has two open literals at each level below the present one
+ready_clause : (b : BookState) (t : TrailState) (clause : List ℤ) → IsReady b t → ((k : ℕ) → k < t.level → HasTwoOpen (lits (upto k t.puts)) clause) → IsReady (record { vars = b.vars; clauses = b.clauses ++ clause ∷ []; seen = b.seen }) t
+ready_clause b t clause h open_two =
+    record {
+      followed = record { vars = h.followed.vars; agrees = h.followed.agrees };
+      none_false = λ k lt. (let U = lits (upto k t.puts) in
+          All-push (λ c. ¬ IsRefutedIn U c) b.clauses clause (h.none_false k lt) (not_refuted U clause (open_two k lt)));
+      none_unit = λ k lt. (let U = lits (upto k t.puts) in
+          let o = open_two k lt in
+          All-push (λ c. (l : ℤ) → ¬ IsUnitIn U c l) b.clauses clause (h.none_unit k lt) (two_open U clause o.first o.second o.first_in o.second_in o.apart o.first_open o.second_open));
+    }
+
+ready_unit : (b : BookState) (t : TrailState) (p : Put) → IsReady b t → IsTrail t → t.level ≡ 0 → IsReady b (record { vars = t.vars; puts = t.puts ++ p ∷ []; level = t.level; low = t.low })
+ready_unit b t p h trail root =
+    record {
+      followed = followed_more b t (p ∷ []) t.level h.followed trail.low_reached;
+      none_false = λ k lt. absurd (omega arith);
+      none_unit = λ k lt. absurd (omega arith);
+    }
+
+pub ready_held : (b b' : BookState) (t t' : TrailState) (names names' : List ℕ) (id : ℕ) (lemma : List ℤ) → IsReady b t → IsTrail t → (length lemma ≡ 1 → t.level ≡ 0) → ((k : ℕ) → k < t.level → HasTwoOpen (lits (upto k t.puts)) lemma) → Holds lemma id b t names b' t' names' → IsReady b' t'
+ready_held b b' t t' names names' id lemma ready trail root open_two (inl h) =
+    let made = ready_unit b t (record { lit = h.0; level = t.level; reason = Some (ids.Unit id) }) ready trail (root (ap length h.1)) in
+    subst (λ x. IsReady x t') (sym h.3) (subst (λ y. IsReady b y) (sym h.2) made)
+ready_held b b' t t' names names' id lemma ready trail root open_two (inr h) =
+    let made = ready_clause b t lemma ready open_two in
+    subst (λ y. IsReady b' y) (sym h.1) (subst (λ x. IsReady x t) (sym h.2) made)

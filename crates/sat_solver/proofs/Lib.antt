@@ -1,0 +1,14 @@
+pub mod Assigning
+pub mod Beginning
+pub mod Fresh
+pub mod Fronting
+pub mod Gathering
+pub mod Growing
+pub mod Holding
+pub mod Kept
+pub mod Lessons
+pub mod Passing
+pub mod Recording
+pub mod Satisfying
+pub mod Taking
+pub mod Standing

@@ -1,0 +1,174 @@
+-- The clauses of a formula, taken in one after another.
+use Rattle.std.proofs.Common.{◌≡◌, ℕ, ◌+◌, ◌^◌, ◌<◌, ◌≤◌, Bool, true, false, leb, ℤ, Result, Ok, Err, Some, List, [], ◌∷◌, ◌++◌, length, get_or, take, refl, ap, sym, ◌∙◌, subst, arith, inl, inr}
+use Rattle.std.specs.Bool.{MatchBool}
+use Rattle.std.specs.Result.{IfOk}
+use Rattle.std.specs.List.{slice_get, enumerate_from}
+use Rattle.std.proofs.lemmas.Bool.{cases_Bool, or_left, or_right, le-leb}
+use Rattle.std.proofs.lemmas.List.{take_more, length-append}
+use Rattle.std.proofs.lemmas.List.Elements.{All-push, Contains-push, Contains-push_cases, filter-append}
+use Rattle.std.proofs.lemmas.Option.{slice_get_read}
+use Rattle.cnf_base.specs.Judged.{has, IsRefutedIn}
+use Rattle.cnf_base.specs.Meaning.{CnfFormula}
+use Rattle.cnf_base.proofs.Literals.{has-append, has-head}
+use Rattle.lrat_text.specs.Accepted.{IsBothWays}
+use Rattle.lrat_text.specs.Standing.{clause_at}
+use Rattle.lrat_text.specs.Spent.{SameLiterals}
+use Rattle.sat_trail.specs.declared.clause_id.ClauseId.TheVariants as ids
+use Rattle.sat_trail.specs.Trail.{Put, TrailState, lits, upto}
+use Rattle.sat_watch.specs.Book.{BookState}
+use Rattle.sat_watch.proofs.Spreading.{lits-append}
+use Rattle.sat_learn.specs.Reasons.{IsCalled}
+use Rattle.sat_solver.specs.Sound.{IsCovered, IsSound}
+use Rattle.sat_solver.specs.Loading.{IsLoaded, IsRefutedAt, Store, with_unit, IsTaken}
+use Rattle.sat_solver.proofs.Growing.{clause_at-enumerate, AreReasons-more_clauses, AreReasons-push, AreCalled-more_clauses, AreCalled-unit, IsCovered-more_clauses, IsCovered-more_roots}
+
+-- ---- what is sound stays so
+
+-- one more clause is covered
+sound_with_done : (vars : ℕ) (live : List (ℕ × List ℤ)) (done : List (List ℤ)) (names : List ℕ) (b : BookState) (t : TrailState) (clause : List ℤ) → IsSound vars live done names b t → IsCovered b.clauses (lits (upto 0 t.puts)) clause → IsSound vars live (done ++ clause ∷ []) names b t
+sound_with_done vars live done names b t clause h covered = record {
+  book_vars = h.book_vars;
+  trail_vars = h.trail_vars;
+  reasons = h.reasons;
+  called = h.called;
+  one_name = h.one_name;
+  small_names = h.small_names;
+  covered = λ c there. elim (Contains-push_cases done clause c there) [
+    | inl old ↦ h.covered c old
+    | inr same ↦ (let P : List ℤ → Type 0 = λ ls. IsCovered b.clauses (lits (upto 0 t.puts)) ls in subst P same covered)
+  ];
+}
+
+-- the book has one more clause
+sound_with_clause : (vars : ℕ) (live : List (ℕ × List ℤ)) (done : List (List ℤ)) (names : List ℕ) (b : BookState) (t : TrailState) (clause : List ℤ) (name : ℕ) → IsSound vars live done names b t → IsCalled live name clause → name < 2 ^ 62 → IsSound vars live done (names ++ name ∷ []) (record b { clauses = b.clauses ++ clause ∷ [] }) t
+sound_with_clause vars live done names b t clause name h called small = record {
+  book_vars = h.book_vars;
+  trail_vars = h.trail_vars;
+  reasons = AreReasons-more_clauses b.clauses (clause ∷ []) [] t.puts h.reasons;
+  called = AreCalled-more_clauses live b.clauses names t.puts clause name h.one_name h.called called;
+  one_name = length-append names (name ∷ []) ∙ ap (λ n. n + 1) h.one_name ∙ sym (length-append b.clauses (clause ∷ []));
+  small_names = All-push (λ n. n < 2 ^ 62) names name h.small_names small;
+  covered = λ c there. IsCovered-more_clauses b.clauses (clause ∷ []) (lits (upto 0 t.puts)) c (h.covered c there);
+}
+
+-- the trail has one more literal, for a unit clause
+sound_with_unit : (vars : ℕ) (live : List (ℕ × List ℤ)) (done : List (List ℤ)) (names : List ℕ) (b : BookState) (t : TrailState) (l : ℤ) (id : ℕ) → IsSound vars live done names b t → IsCalled live id (l ∷ []) → id < 2 ^ 62 → IsSound vars live done names b (record t { puts = t.puts ++ record { lit = l; level = t.level; reason = Some (ids.Unit id) } ∷ [] })
+sound_with_unit vars live done names b t l id h called small =
+    let p : Put = record { lit = l; level = t.level; reason = Some (ids.Unit id) } in
+    let roots : lits (upto 0 (t.puts ++ p ∷ [])) ≡ lits (upto 0 t.puts) ++ lits (upto 0 (p ∷ [])) =
+    ap lits (filter-append (λ (q : Put). leb q.level 0) t.puts (p ∷ [])) ∙ lits-append (upto 0 t.puts) (upto 0 (p ∷ [])) in
+    record {
+      book_vars = h.book_vars;
+      trail_vars = h.trail_vars;
+      reasons = AreReasons-push b.clauses t.puts p h.reasons small;
+      called = AreCalled-unit live b.clauses names t.puts p id h.called refl called;
+      one_name = h.one_name;
+      small_names = h.small_names;
+      covered = λ c there. IsCovered-more_roots b.clauses (lits (upto 0 t.puts)) (lits (upto 0 (t.puts ++ p ∷ []))) c
+          (λ m k. ap (λ ls. has ls m) roots ∙ has-append (lits (upto 0 t.puts)) (lits (upto 0 (p ∷ []))) m ∙ or_left (has (lits (upto 0 t.puts)) m) (has (lits (upto 0 (p ∷ []))) m) k)
+          (h.covered c there);
+    }
+
+-- ---- the clause at a place
+
+-- this clause stands at the place
+pub record IsAt (formula : CnfFormula) (place : ℕ) (clause : List ℤ) : Type 0 where
+  pub within : place < length formula.clauses
+  pub here : clause ≡ get_or formula.clauses place clause
+
+found : (formula : CnfFormula) (place : ℕ) (clause : List ℤ) → IsAt formula place clause → slice_get formula.clauses place ≡ Some clause
+found formula place clause at = slice_get_read formula.clauses (length formula.clauses) place clause refl at.within at.here
+
+called_at : (formula : CnfFormula) (place : ℕ) (clause ls : List ℤ) → IsAt formula place clause → SameLiterals clause ls → IsCalled (enumerate_from 1 formula.clauses) (place + 1) ls
+called_at formula place clause ls at same =
+    let number : place + 1 ≡ 1 + place = omega arith in
+    (clause, ap (clause_at (enumerate_from 1 formula.clauses)) number ∙ clause_at-enumerate 1 formula.clauses place clause (found formula place clause at), same)
+
+-- it is covered, so one more is loaded
+loaded_more : (formula : CnfFormula) (place : ℕ) (names : List ℕ) (b : BookState) (t : TrailState) (clause : List ℤ) → IsLoaded formula place names b t → IsAt formula place clause → IsCovered b.clauses (lits (upto 0 t.puts)) clause → IsLoaded formula (place + 1) names b t
+loaded_more formula place names b t clause h at covered =
+    let more : take (place + 1) formula.clauses ≡ take place formula.clauses ++ clause ∷ [] =
+    take_more formula.clauses place clause at.within ∙ ap (λ c. take place formula.clauses ++ c ∷ []) (sym at.here) in
+    let P : List (List ℤ) → Type 0 = λ done. IsSound formula.vars (enumerate_from 1 formula.clauses) done names b t in
+    let lt = at.within in
+    record {
+      within = omega arith;
+      sound = subst P (sym more) (sound_with_done formula.vars (enumerate_from 1 formula.clauses) (take place formula.clauses) names b t clause h.sound covered);
+      at_root = h.at_root;
+      all_at_root = h.all_at_root;
+      low = h.low;
+    }
+
+pub loaded_both_ways : (formula : CnfFormula) (place : ℕ) (names : List ℕ) (b : BookState) (t : TrailState) (clause : List ℤ) → IsLoaded formula place names b t → IsAt formula place clause → IsBothWays clause → IsLoaded formula (place + 1) names b t
+loaded_both_ways formula place names b t clause h at both = loaded_more formula place names b t clause h at (inl both)
+
+-- the trail of a loaded formula with one more literal of a unit clause
+loaded_put : (formula : CnfFormula) (place : ℕ) (names : List ℕ) (b : BookState) (t : TrailState) (l : ℤ) (id : ℕ) → IsLoaded formula place names b t → IsCalled (enumerate_from 1 formula.clauses) id (l ∷ []) → id < 2 ^ 62 → IsLoaded formula place names b (record t { puts = t.puts ++ record { lit = l; level = t.level; reason = Some (ids.Unit id) } ∷ [] })
+loaded_put formula place names b t l id h called small =
+    let p : Put = record { lit = l; level = t.level; reason = Some (ids.Unit id) } in
+    let root = h.at_root in
+    let low : t.level ≤ 0 = omega arith in
+    let last : upto 0 (p ∷ []) ≡ p ∷ [] = rw (le-leb t.level 0 low) refl in
+    record {
+      within = h.within;
+      sound = sound_with_unit formula.vars (enumerate_from 1 formula.clauses) (take place formula.clauses) names b t l id h.sound called small;
+      at_root = h.at_root;
+      all_at_root = filter-append (λ (q : Put). leb q.level 0) t.puts (p ∷ []) ∙ ap (λ qs. qs ++ upto 0 (p ∷ [])) h.all_at_root ∙ ap (λ qs. t.puts ++ qs) last;
+      low = h.low;
+    }
+
+loaded_unit : (formula : CnfFormula) (place : ℕ) (names : List ℕ) (b : BookState) (t : TrailState) (clause : List ℤ) (l : ℤ) → IsLoaded formula place names b t → IsAt formula place clause → SameLiterals clause (l ∷ []) → place + 1 < 2 ^ 62 → IsLoaded formula (place + 1) names b (with_unit (place + 1) l t)
+loaded_unit formula place names b t clause l h at same small =
+    elim (cases_Bool (has (lits t.puts) l)) [
+      | inl e ↦ (let true_there : has (lits (upto 0 t.puts)) l ≡ true = ap (λ qs. has (lits qs) l) h.all_at_root ∙ e in
+          rw e (loaded_more formula place names b t clause h at (inr (inl (l, same, true_there)))))
+      | inr e ↦ (let p : Put = record { lit = l; level = t.level; reason = Some (ids.Unit (place + 1)) } in
+          let put = loaded_put formula place names b t l (place + 1) h (called_at formula place clause (l ∷ []) at same) small in
+          let true_there : has (lits (upto 0 (t.puts ++ p ∷ []))) l ≡ true =
+          ap (λ qs. has (lits qs) l) put.all_at_root ∙ ap (λ ls. has ls l) (lits-append t.puts (p ∷ [])) ∙ has-append (lits t.puts) (l ∷ []) l ∙ or_right (has (lits t.puts) l) (has (l ∷ []) l) (has-head l []) in
+          rw e (loaded_more formula place names b (record t { puts = t.puts ++ p ∷ [] }) clause put at (inr (inl (l, same, true_there)))))
+    ]
+
+loaded_clause : (formula : CnfFormula) (place : ℕ) (names : List ℕ) (b : BookState) (t : TrailState) (clause ls : List ℤ) → IsLoaded formula place names b t → IsAt formula place clause → SameLiterals clause ls → place + 1 < 2 ^ 62 → IsLoaded formula (place + 1) (names ++ (place + 1) ∷ []) (record b { clauses = b.clauses ++ ls ∷ [] }) t
+loaded_clause formula place names b t clause ls h at same small =
+    let grown : IsLoaded formula place (names ++ (place + 1) ∷ []) (record b { clauses = b.clauses ++ ls ∷ [] }) t = record {
+      within = h.within;
+      sound = sound_with_clause formula.vars (enumerate_from 1 formula.clauses) (take place formula.clauses) names b t ls (place + 1) h.sound (called_at formula place clause ls at same) small;
+      at_root = h.at_root;
+      all_at_root = h.all_at_root;
+      low = h.low;
+    } in
+    loaded_more formula place (names ++ (place + 1) ∷ []) (record b { clauses = b.clauses ++ ls ∷ [] }) t clause grown at (inr (inr (ls, Contains-push b.clauses ls, same)))
+
+-- what a store has is loaded
+abbrev pub IsLoadedIn : CnfFormula → ℕ → Store → Type 0
+IsLoadedIn formula count s = IsLoaded formula count s.names s.book s.trail
+
+pub loaded_taken : (formula : CnfFormula) (place : ℕ) (old new : Store) (clause ls : List ℤ) → IsLoadedIn formula place old → IsAt formula place clause → SameLiterals clause ls → place + 1 < 2 ^ 62 → IsTaken (place + 1) ls old new → IsLoadedIn formula (place + 1) new
+loaded_taken formula place old new clause [] h at same small taken = absurd taken
+loaded_taken formula place old new clause (l ∷ []) h at same small taken =
+    let P : Store → Type 0 = λ s. IsLoadedIn formula (place + 1) s in
+    subst P (sym taken) (loaded_unit formula place old.names old.book old.trail clause l h at same small)
+loaded_taken formula place old new clause (l ∷ m ∷ more) h at same small taken =
+    let P : Store → Type 0 = λ s. IsLoadedIn formula (place + 1) s in
+    subst P (sym taken) (loaded_clause formula place old.names old.book old.trail clause (l ∷ m ∷ more) h at same small)
+
+pub refuted_at : (formula : CnfFormula) (place : ℕ) (t : TrailState) (clause ls : List ℤ) → IsAt formula place clause → SameLiterals clause ls → IsRefutedIn (lits t.puts) ls → IsRefutedAt formula t place
+refuted_at formula place t clause ls at same h = record {
+  clause = clause;
+  here = found formula place clause at;
+  refuted = λ l inside. h l (sym (same l) ∙ inside);
+}
+
+-- by what taking it in answers
+pub loaded_by_answer : {E : Type 0} (r : Result Bool E) (formula : CnfFormula) (place : ℕ) (old new : Store) (clause ls : List ℤ) → IsLoadedIn formula place old → IsAt formula place clause → SameLiterals clause ls → place + 1 < 2 ^ 62
+    → IfOk r (λ is_false. MatchBool is_false (IsRefutedIn (lits old.trail.puts) ls × (new ≡ old)) (IsTaken (place + 1) ls old new))
+    → IfOk r (λ is_false. MatchBool is_false (IsLoadedIn formula place new × IsRefutedAt formula new.trail place) (IsLoadedIn formula (place + 1) new))
+loaded_by_answer (Err e) formula place old new clause ls h at same small answer = tt
+loaded_by_answer (Ok true) formula place old new clause ls h at same small answer =
+    let P : Store → Type 0 = λ s. IsLoadedIn formula place s × IsRefutedAt formula s.trail place in
+    subst P (sym answer.1) (h, refuted_at formula place old.trail clause ls at same answer.0)
+loaded_by_answer (Ok false) formula place old new clause ls h at same small answer = loaded_taken formula place old new clause ls h at same small answer
+
+pub at_place : (formula : CnfFormula) (place : ℕ) (clauses : List (List ℤ)) (clause : List ℤ) → place < length formula.clauses → clauses ≡ formula.clauses → clause ≡ get_or clauses place clause → IsAt formula place clause
+at_place formula place clauses clause within same here = record { within = within; here = here ∙ ap (λ cs. get_or cs place clause) same }

@@ -1,0 +1,21 @@
+use Rattle.std.proofs.Common.{subst}
+use Rattle.sat_solver.specs.declared.turning.Turn.{Turn}
+use Rattle.sat_solver.specs.Ledger.{live}
+use Rattle.sat_solver.specs.Turning.{EndIs}
+use Rattle.sat_solver.proofs.Standing.{is_model}
+use Rattle.sat_solver.proofs.solving.answer.Goals as goal
+
+pub returns-in_ok-values-in-Satisfied : goal.returns-in_ok-values-in-Satisfied
+returns-in_ok-values-in-Satisfied c =
+    let s = c.args.search in
+    let formula = c.args.formula.now in
+    let P : Turn → Type 0 = λ end. EndIs formula c.args.lemmas s end in
+    let h = subst P c.in-Satisfied.is c.requires in
+    is_model formula s.steps (live formula s.steps) s.names.items s.book s.trail c.in_ok-values-in-Satisfied.field-0
+    h.0.search.sound c.vars.ensures.well_formed c.vars-in-Satisfied.ensures.well_formed h.1 h.2 c.in_ok-values-in-Satisfied.ensures.number c.in_ok-values-in-Satisfied.ensures.each
+
+pub returns-in_ok-close-in-Refuted : goal.returns-in_ok-close-in-Refuted
+returns-in_ok-close-in-Refuted c =
+    let P : Turn → Type 0 = λ end. EndIs c.args.formula.now c.args.lemmas c.args.search end in
+    let h = subst P c.in-Refuted.is c.requires in
+    c.in_ok-close-in-Refuted.ensures c.args.lemmas h.0.within

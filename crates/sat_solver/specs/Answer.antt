@@ -1,0 +1,40 @@
+-- What each answer of the solver says.
+use Rattle.std.specs.Prelude.{◌≡◌, ℕ, suc, ◌-◌, ◌≤◌, Bool, false, List, [], ◌∷◌, length, slice_index_or}
+use Rattle.cnf_base.specs.Meaning.{CnfFormula, Satisfies}
+use Rattle.lrat_text.specs.declared.proof.LratStep.{LratStep}
+use Rattle.lrat_text.specs.declared.proof.LratStep.TheVariants.{Add, Delete}
+use Rattle.lrat_text.specs.Accepted.{Accepted}
+use Rattle.lrat_text.specs.Spent.{SpentOn, Earned}
+use Rattle.sat_solver.specs.declared.answer.Answer.{Answer}
+use Rattle.sat_solver.specs.declared.answer.Answer.TheVariants.{Sat, Unsat, Spent}
+
+-- the value of a variable, where the first one stands for variable 1
+abbrev pub value_of : List Bool → ℕ → Bool
+value_of bits x = slice_index_or bits (x - 1) false
+
+-- a value for each variable, which make every clause true
+pub record IsModel (formula : CnfFormula) (bits : List Bool) : Type 0 where
+  pub number : length bits ≡ formula.vars
+  pub satisfies : Satisfies (value_of bits) formula.clauses
+
+-- how many clauses that aren't empty are added
+abbrev pub lemma_count : List LratStep → ℕ
+lemma_count [] = 0
+lemma_count (Add id [] hints ∷ steps) = lemma_count steps
+lemma_count (Add id (l ∷ ls) hints ∷ steps) = suc (lemma_count steps)
+lemma_count (Delete at ids ∷ steps) = lemma_count steps
+
+-- an accepted proof within the budget of lemmas
+pub record IsRefutation (formula : CnfFormula) (lemmas : ℕ) (proof : List LratStep) : Type 0 where
+  pub accepted : Accepted formula proof
+  pub within : lemma_count proof ≤ lemmas
+
+-- a proof that spends the whole budget on lemmas that it earns
+pub record IsSpending (formula : CnfFormula) (lemmas : ℕ) (proof : List LratStep) : Type 0 where
+  pub spent : SpentOn formula lemmas proof
+  pub earned : Earned formula proof
+
+abbrev pub IsAnswer : CnfFormula → ℕ → Answer → Type 0
+IsAnswer formula lemmas (Sat bits) = IsModel formula bits
+IsAnswer formula lemmas (Unsat proof) = IsRefutation formula lemmas proof
+IsAnswer formula lemmas (Spent proof) = IsSpending formula lemmas proof

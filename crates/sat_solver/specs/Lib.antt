@@ -1,0 +1,9 @@
+pub mod Answer
+pub mod Deciding
+pub mod Keeping
+pub mod Ledger
+pub mod Loading
+pub mod Searching
+pub mod Sound
+pub mod Teaching
+pub mod Turning

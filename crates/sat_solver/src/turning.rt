@@ -1,0 +1,118 @@
+//! One turn of a search.
+
+ghost use Rattle.std.specs.Prelude.{◌≡◌, ℕ, ◌<◌, ◌≤◌, ℤ, List, IsTrue, IsFalse, length, IfOk, OnOk};
+ghost use Rattle.cnf_base.specs.Judged.{IsRefutedIn};
+ghost use Rattle.cnf_base.specs.Meaning.{CnfFormula};
+ghost use Rattle.sat_trail.specs.Trail.{lits};
+ghost use Rattle.sat_watch.specs.Book.{IsClauseOf, ScanIs};
+ghost use Rattle.sat_watch.specs.Ready.{IsReady, IsSettled};
+ghost use Rattle.sat_solver.specs.Deciding.{IsPassed};
+ghost use Rattle.sat_solver.specs.Turning.{IsTurn, left, AllAssigned, TurnIs};
+
+use crate::deciding::next_variable;
+use crate::keeping::keep;
+use crate::search::Search;
+use crate::teaching::teach;
+use cnf_base::Formula;
+use ketch_base::OutOfMemory;
+use sat_trail::ClauseId;
+use sat_watch::Scan;
+use std::alloc::Global;
+
+/// How a turn ends.
+#[derive(Clone, Copy)]
+pub enum Turn {
+    GoOn,
+    /// All variables are assigned, and no clause is false.
+    Satisfied,
+    /// This clause is false at level 0.
+    Refuted(ClauseId),
+    /// The budget is spent, and a clause is false above level 0.
+    Spent,
+}
+
+fn propagate(search: &mut Search) -> Scan
+    requires { IsReady search.old.book search.old.trail }
+    ensures turn { (formula : CnfFormula) (lemmas : ℕ) → IsTurn formula lemmas search.old → IsTurn formula lemmas search.new }
+    ensures no_more { (lemmas : ℕ) → left lemmas search.new ≤ left lemmas search.old }
+    ensures answer { ScanIs search.new.book.clauses (lits search.new.trail.puts) result }
+    ensures settled { result ≡ Scan.Quiet → IsSettled search.new.book search.new.trail }
+{
+    let _ = search.trail.vars();
+    let scan = search.book.propagate(&mut search.trail);
+    let _ = search.trail.len();
+    scan
+}
+
+/// Decides the next variable, where one is unassigned.
+fn decide(search: &mut Search) -> bool
+    requires settled { IsSettled search.old.book search.old.trail }
+    requires vars { search.old.trail.vars ≡ length search.old.queue }
+    requires phases { search.old.trail.vars ≡ search.old.phases }
+    requires passed { IsPassed search.old.queue search.old.trail.puts search.old.from }
+    ensures turn { (formula : CnfFormula) (lemmas : ℕ) → IsTurn formula lemmas search.old → IsTurn formula lemmas search.new }
+    ensures less { IsTrue result → (lemmas : ℕ) → left lemmas search.new < left lemmas search.old }
+    ensures all { IsFalse result → AllAssigned search.new.trail }
+    ensures trail { IsFalse result → search.new.trail ≡ search.old.trail }
+    ensures book { search.new.book ≡ search.old.book }
+{
+    let _ = (search.queue.vars(), search.trail.vars());
+    search.from = next_variable(&search.queue, search.from, &search.trail);
+    let Some(var) = search.from else {
+        return false;
+    };
+    let lit = search.phases.literal(var);
+    search.trail.decide(lit);
+    let _ = search.trail.len();
+    true
+}
+
+/// Learns from a clause that is false above level 0, and goes on where the lemma is unit.
+fn learn(
+    alloc: Global,
+    formula: &Formula,
+    search: &mut Search,
+    conflict: ClauseId,
+    lemmas: u64,
+) -> Result<(), OutOfMemory>
+    requires turn { IsTurn formula.now lemmas search.old }
+    requires above { 0 < search.old.trail.level }
+    requires conflict { (clause : List ℤ) × IsClauseOf search.old.book.clauses conflict clause × IsRefutedIn (lits search.old.trail.puts) clause }
+    requires room { length search.old.steps < lemmas }
+    ensures turn { OnOk result (IsTurn formula.now lemmas search.new) }
+    ensures less { OnOk result (left lemmas search.new < left lemmas search.old) }
+{
+    let _ = lemmas;
+    let lesson = teach(search, conflict)?;
+    keep(alloc, formula, search, lesson)?;
+    Ok(())
+}
+
+/// Propagates, and then decides or learns.
+pub fn take_turn(
+    alloc: Global,
+    formula: &Formula,
+    search: &mut Search,
+    lemmas: u64,
+) -> Result<Turn, OutOfMemory>
+    requires { IsTurn formula.now lemmas search.old }
+    ensures { IfOk result (TurnIs formula.now lemmas search.old search.new) }
+{
+    match propagate(search) {
+        Scan::Quiet => Ok(if decide(search) {
+            Turn::GoOn
+        } else {
+            Turn::Satisfied
+        }),
+        Scan::Conflict(id) => {
+            if search.trail.level() == 0 {
+                return Ok(Turn::Refuted(id));
+            }
+            if search.steps.len() as u64 == lemmas {
+                return Ok(Turn::Spent);
+            }
+            learn(alloc, formula, search, id, lemmas)?;
+            Ok(Turn::GoOn)
+        }
+    }
+}
