@@ -1,0 +1,19 @@
+//! Rows of the solver: formulas whose answers are known from elsewhere, and each answer judged by the checker or by truth.
+#![tactic(auto)]
+
+#[cfg(test)]
+mod families;
+#[cfg(test)]
+mod family_rows;
+#[cfg(test)]
+mod formulas;
+#[cfg(test)]
+mod judging;
+#[cfg(test)]
+mod random;
+#[cfg(test)]
+mod random_rows;
+#[cfg(test)]
+mod rows;
+#[cfg(test)]
+mod truth;
