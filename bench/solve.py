@@ -1,0 +1,417 @@
+#!/usr/bin/env python3
+"""Time and conflicts of Ketch's solver beside cadical and minisat, on formulas like those of the search.
+
+The program is crates/solve_dimacs/out/solve_dimacs, as `rt ci` or `rt run` leaves it. `cadical --plain` and
+`minisat -no-pre`, both without preprocessing, run where they are on PATH; a peer that is missing is skipped. Each
+formula is a circuit of AND gates over time frames: counters, arbiters, multipliers, and random gates. Ketch's lemmas are
+its conflicts; for a satisfiable formula they are found by runs with smaller budgets, where these are short.
+
+    solve.py [--timeout SECONDS] [--only WORD] [--most CLAUSES] [--check] [--keep FOLDER]
+
+`--check` has `ketch lrat` check each proof of unsatisfiability; `--keep` leaves the formulas in a folder.
+"""
+import argparse
+import os
+import random
+import re
+import shutil
+import subprocess
+import sys
+import tempfile
+import time
+
+TOP = os.path.dirname(os.path.dirname(os.path.abspath(__file__)))
+PROGRAM = os.path.join(TOP, "crates", "solve_dimacs", "out", "solve_dimacs")
+KETCH = os.path.join(TOP, "crates", "ketch", "out", "ketch")
+BUDGET = 1 << 60
+ANSWERS = {10: "sat", 20: "unsat", 30: "spent"}
+TRUE = 1
+
+
+class Circuit:
+    """AND gates as clauses. A literal is a number; variable 1 is true."""
+
+    def __init__(self):
+        self.variables, self.clauses, self.gates = 1, [(TRUE,)], {}
+
+    def input(self):
+        self.variables += 1
+        return self.variables
+
+    def inputs(self, count):
+        return [self.input() for _ in range(count)]
+
+    def negate(self, a):
+        return -a
+
+    def both(self, a, b):
+        if a > b:
+            a, b = b, a
+        if a == -b or -TRUE in (a, b):
+            return -TRUE
+        if TRUE in (a, b):
+            return b if a == TRUE else a
+        if a == b:
+            return a
+        if (a, b) not in self.gates:
+            self.gates[a, b] = out = self.input()
+            self.clauses += [(-out, a), (-out, b), (out, -a, -b)]
+        return self.gates[a, b]
+
+    def either(self, a, b):
+        return -self.both(-a, -b)
+
+    def differ(self, a, b):
+        return self.both(self.either(a, b), -self.both(a, b))
+
+    def choose(self, test, a, b):
+        return self.either(self.both(test, a), self.both(-test, b))
+
+    def all(self, lits):
+        lits = list(lits)
+        while len(lits) > 1:
+            lits = [self.both(*lits[k:k + 2]) if k + 1 < len(lits) else lits[k] for k in range(0, len(lits), 2)]
+        return lits[0] if lits else TRUE
+
+    def any(self, lits):
+        return -self.all(-lit for lit in lits)
+
+    def equal(self, bits, value):
+        return self.all(bit if value >> k & 1 else -bit for k, bit in enumerate(bits))
+
+    def want(self, lit):
+        self.clauses.append((lit,))
+
+    def write(self, path):
+        with open(path, "w") as file:
+            file.write(f"p cnf {self.variables} {len(self.clauses)}\n")
+            file.writelines(" ".join(map(str, lits)) + " 0\n" for lits in self.clauses)
+
+
+def counter(bits, frames, target):
+    """Counts the steps at which an input is true, with another that puts it back: does it reach the target?"""
+    circuit = Circuit()
+    state = [-TRUE] * bits
+    for _ in range(frames):
+        carry, back = circuit.inputs(2)
+        following = []
+        for bit in state:
+            following.append(circuit.both(-back, circuit.differ(bit, carry)))
+            carry = circuit.both(bit, carry)
+        state = following
+    circuit.want(circuit.equal(state, target))
+    return circuit
+
+
+def arbiter_grants(circuit, pointer, requests):
+    """Who is granted: the first that requests, from the pointer on."""
+    count = len(requests)
+    grants = []
+    for client in range(count):
+        wins = []
+        for first in range(count):
+            between = [-requests[(first + k) % count] for k in range((client - first) % count)]
+            wins.append(circuit.all([pointer[first], requests[client]] + between))
+        grants.append(circuit.any(wins))
+    return grants
+
+
+def arbiter(clients, frames, wanted):
+    """A round-robin arbiter from reset: two grants at once in a frame, or grants in an order that is wanted."""
+    circuit = Circuit()
+    pointer = [TRUE] + [-TRUE] * (clients - 1)
+    clashes, orders = [], []
+    for frame in range(frames):
+        requests = circuit.inputs(clients)
+        grants = arbiter_grants(circuit, pointer, requests)
+        clashes += [circuit.both(a, b) for k, a in enumerate(grants) for b in grants[:k]]
+        orders.append(grants[frame * wanted % clients])
+        none = circuit.all(-grant for grant in grants)
+        pointer = [circuit.choose(none, pointer[k], grants[k - 1]) for k in range(clients)]
+    circuit.want(circuit.all(orders) if wanted else circuit.any(clashes))
+    return circuit
+
+
+def add(circuit, a, b, carry):
+    one = circuit.differ(a, b)
+    return circuit.differ(one, carry), circuit.either(circuit.both(a, b), circuit.both(one, carry))
+
+
+def product(circuit, left, right):
+    """An array multiplier: a row of adders for each bit on the right."""
+    rows = [[circuit.both(a, b) for a in left] for b in right]
+    sums, out = rows[0], []
+    for row in rows[1:]:
+        out.append(sums[0])
+        sums, carry, above = [], -TRUE, sums[1:] + [-TRUE] * (len(row) - len(sums) + 1)
+        for a, b in zip(row, above):
+            bit, carry = add(circuit, a, b, carry)
+            sums.append(bit)
+        sums.append(carry)
+    return out + sums
+
+
+def commuted(bits):
+    """Do a * b and b * a differ?"""
+    circuit = Circuit()
+    left, right = circuit.inputs(bits), circuit.inputs(bits)
+    one, other = product(circuit, left, right), product(circuit, right, left)
+    circuit.want(circuit.any(circuit.differ(a, b) for a, b in zip(one, other)))
+    return circuit
+
+
+def factored(bits, number):
+    """Two factors above 1 of a number."""
+    circuit = Circuit()
+    left, right = circuit.inputs(bits), circuit.inputs(bits)
+    circuit.want(circuit.equal(product(circuit, left, right), number))
+    for factor in (left, right):
+        circuit.want(circuit.any(factor[1:]))
+    return circuit
+
+
+class Runs:
+    """Many runs at once, one to a bit: what a circuit computes, on values."""
+
+    def __init__(self, count, chosen):
+        self.count, self.chosen, self.all_true = count, chosen, (1 << count) - 1
+
+    def inputs(self, count):
+        return [self.chosen.getrandbits(self.count) for _ in range(count)]
+
+    def negate(self, a):
+        return self.all_true ^ a
+
+    def both(self, a, b):
+        return a & b
+
+
+def step(gates, nexts, values, of):
+    """The next state after one step of random gates, over a state and inputs."""
+    for a, not_a, b, not_b in gates:
+        values.append(of.both(of.negate(values[a]) if not_a else values[a], of.negate(values[b]) if not_b else values[b]))
+    return [of.negate(values[k]) if negated else values[k] for k, negated in nexts]
+
+
+def random_gates(count, latches, inputs, chosen):
+    """AND gates over earlier ones nearby, one in four as three that make the difference; which gates the latches take."""
+    gates, first = [], latches + inputs
+    while len(gates) < count:
+        here = first + len(gates)
+        a, b = chosen.sample(range(max(0, here - 4 * latches), here), 2)
+        if chosen.randrange(4):
+            gates.append((a, chosen.randrange(2), b, chosen.randrange(2)))
+        else:
+            gates += [(a, 0, b, 1), (a, 1, b, 0), (here, 1, here + 1, 1)]
+    return gates, [(first + chosen.randrange(count // 2, count), chosen.randrange(2)) for _ in range(latches)]
+
+
+def random_frames(latches, count, frames, seen):
+    """A combination of ten latches after some frames of random gates, that 4,096 random runs show or don't show."""
+    inputs, chosen = latches // 2, random.Random(latches * count + frames)
+    gates, nexts = random_gates(count, latches, inputs, chosen)
+    circuit, runs = Circuit(), Runs(4096, chosen)
+    state, shown = [-TRUE] * latches, [0] * latches
+    for _ in range(frames):
+        state = step(gates, nexts, state + circuit.inputs(inputs), circuit)
+        shown = step(gates, nexts, shown + runs.inputs(inputs), runs)
+    places = sorted(range(latches), key=lambda k: abs(2 * bin(shown[k]).count("1") - runs.count))[:10]
+    combinations = {sum((shown[place] >> run & 1) << k for k, place in enumerate(places)) for run in range(runs.count)}
+    unseen = [value for value in range(1 << len(places)) if value not in combinations]
+    circuit.want(circuit.equal([state[place] for place in places], chosen.choice(sorted(combinations) if seen else unseen)))
+    return circuit
+
+
+def formulas():
+    """Name, answer, and how to make it; small ones first in each family."""
+    for bits, frames in ((6, 20), (7, 40), (8, 80), (10, 300), (12, 3000)):
+        yield f"counter {bits} bits {frames} frames", "sat", lambda b=bits, f=frames: counter(b, f, f * 3 // 4)
+        yield f"counter {bits} bits {frames} frames", "unsat", lambda b=bits, f=frames: counter(b, f, f + 1)
+    for clients, frames in ((6, 12), (8, 30), (12, 60), (16, 120)):
+        yield f"arbiter {clients} clients {frames} frames", "sat", lambda c=clients, f=frames: arbiter(c, f, 3)
+        yield f"arbiter {clients} clients {frames} frames", "unsat", lambda c=clients, f=frames: arbiter(c, f, 0)
+    for bits in (5, 6, 7, 8):
+        yield f"multiplier {bits} bits commuted", "unsat", lambda b=bits: commuted(b)
+    for bits, number in ((10, 1009 * 997), (12, 4093 * 3989), (14, 16381 * 12347), (16, 65521 * 64997)):
+        yield f"multiplier {bits} bits factored", "sat", lambda b=bits, n=number: factored(b, n)
+    for latches, count, frames in ((20, 200, 8), (40, 1000, 20), (60, 4000, 30), (80, 8000, 24)):
+        name = f"gates {count} by {frames} frames"
+        yield name, "sat", lambda l=latches, c=count, f=frames: random_frames(l, c, f, True)
+        yield name, None, lambda l=latches, c=count, f=frames: random_frames(l, c, f, False)
+
+
+def chain(count, last):
+    """A unit, and implications from each variable to the next that stand before it; the last one false, or free."""
+    yield f"p cnf {count} {count + last}\n"
+    for variable in range(count - 1, 0, -1):
+        yield f"-{variable} {variable + 1} 0\n"
+    yield "1 0\n"
+    if last:
+        yield f"-{count} 0\n"
+
+
+def run(words, timeout, output=None):
+    """Seconds, status (None after the timeout), and what was written to standard output and error, together."""
+    with tempfile.TemporaryFile() as said:
+        started = time.monotonic()
+        process = subprocess.Popen(words, stdout=output or said, stderr=said)
+        try:
+            status = process.wait(timeout)
+        except subprocess.TimeoutExpired:
+            process.kill()
+            process.wait()
+            status = None
+        seconds = time.monotonic() - started
+        said.seek(0)
+        return seconds, status, said.read().decode()
+
+
+class Outcome:
+    """How a solver ended; `conflicts` and `hints` are None where they aren't known."""
+
+    def __init__(self, seconds, status, conflicts, hints=None):
+        self.seconds, self.answer = seconds, ANSWERS.get(status, "late" if status is None else f"status {status}")
+        self.conflicts, self.hints = conflicts, hints
+
+    def rate(self):
+        return self.conflicts / self.seconds if self.conflicts and self.seconds else None
+
+
+def number_in(pattern, text):
+    found = re.search(pattern, text)
+    return int(found.group(1)) if found else None
+
+
+def ketch(formula, proof, timeout, budget=BUDGET):
+    with open(proof, "wb") as output:
+        seconds, status, said = run([PROGRAM, formula, str(budget)], timeout, output)
+    return Outcome(seconds, status, number_in(r"lemmas=(\d+)", said), number_in(r"hints=(\d+)", said))
+
+
+def peer(words, pattern, formula, timeout):
+    seconds, status, said = run(words + [formula], timeout)
+    return Outcome(seconds, status, number_in(pattern, said))
+
+
+PEERS = {
+    "cadical": (["cadical", "--plain"], r"c conflicts: +(\d+)"),
+    "minisat": (["minisat", "-no-pre"], r"conflicts +: +(\d+)"),
+}
+
+
+def least_budget(formula, proof, seconds):
+    """The lemmas of a satisfiable formula: the least budget under which it is found to be so."""
+    few, many = 0, 1
+    while ketch(formula, proof, 10 * seconds + 1, many).answer != "sat":
+        few, many = many, 4 * many
+    while many - few > 1:
+        middle = (few + many) // 2
+        if ketch(formula, proof, 10 * seconds + 1, middle).answer == "sat":
+            many = middle
+        else:
+            few = middle
+    return many if few else 0
+
+
+def shown(value, width, places=0):
+    return f"{'-' if value is None else format(value, f'.{places}f'):>{width}}"
+
+
+def ratio(own, other):
+    ended = other and {own.answer, other.answer} <= {"sat", "unsat"}
+    return own.seconds / max(other.seconds, 0.001) if ended else None
+
+
+def line(name, clauses, outcomes):
+    own, others = outcomes["ketch"], [outcomes.get(name) for name in PEERS]
+    every = [own] + others
+    cells = [f"{name:34} {own.answer:6} {clauses:8}"]
+    cells += [shown(one and one.conflicts, 9) for one in every]
+    cells += [shown(one and one.rate(), 9) for one in every]
+    cells += [shown(one and one.seconds, 9, 2) for one in every]
+    cells += [shown(ratio(own, other), 7, 1) for other in others]
+    cells.append(shown(own.hints / own.conflicts if own.hints and own.conflicts else None, 8, 1))
+    print(" ".join(cells), flush=True)
+
+
+def head():
+    names = ["ketch"] + list(PEERS)
+    cells = [f"{'formula':34} {'answer':6} {'clauses':>8}"]
+    cells += [f"{name + text:>{width}}" for text, width in (("", 9), ("/s", 9), (" s", 9)) for name in names]
+    print(" ".join(cells + [f"{'/' + name[:4]:>7}" for name in PEERS] + [f"{'hints/l':>8}"]))
+    print("(conflicts, conflicts a second, seconds, Ketch's seconds by the peer's, hints a lemma)")
+
+
+def agree(name, wanted, outcomes):
+    """Ends the bench where two answers differ, or one differs from what is known."""
+    answers = {one.answer for one in outcomes.values()} & {"sat", "unsat"}
+    if len(answers | ({wanted} if wanted else set())) > 1:
+        sys.exit(f"{name}: {({solver: one.answer for solver, one in outcomes.items()})}, wanted {wanted}")
+
+
+def compare(name, wanted, path, clauses, options):
+    proof = path + ".lrat"
+    outcomes = {"ketch": ketch(path, proof, options.timeout)}
+    for solver, (words, pattern) in PEERS.items():
+        if shutil.which(words[0]):
+            outcomes[solver] = peer(words, pattern, path, options.timeout)
+    own = outcomes["ketch"]
+    agree(name, wanted, outcomes)
+    if options.check and own.answer == "unsat":
+        seconds, status, said = run([KETCH, "lrat", path, proof], None)
+        if status != 0:
+            sys.exit(f"{name}: the proof is refused: {said}")
+    if own.answer == "sat" and own.seconds < options.timeout / 30:
+        own.conflicts = least_budget(path, proof, own.seconds)
+    os.unlink(proof)
+    line(name, clauses, outcomes)
+
+
+def load(count, folder):
+    print(f"\nloading {count} clauses, a chain of units to propagate; wanted under 5 s")
+    path = os.path.join(folder, "chain.cnf")
+    for last in (False, True):
+        with open(path, "w") as file:
+            file.writelines(chain(count, last))
+        outcome = ketch(path, path + ".lrat", 600)
+        size = os.path.getsize(path) / 1e6
+        print(f"{'ends in a conflict' if last else 'has a model':20} {outcome.answer:6} {size:6.1f} MB {outcome.seconds:7.2f} s")
+    os.unlink(path + ".lrat")
+
+
+def words():
+    parser = argparse.ArgumentParser(description="Ketch's solver beside cadical and minisat.")
+    parser.add_argument("--timeout", type=float, default=60)
+    parser.add_argument("--only", default="", help="formulas whose name has this word")
+    parser.add_argument("--most", type=int, default=600_000, help="the most clauses of a formula")
+    parser.add_argument("--check", action="store_true")
+    parser.add_argument("--keep", help="a folder for the formulas")
+    return parser.parse_args()
+
+
+def main():
+    options = words()
+    for program in [PROGRAM] + [KETCH] * options.check:
+        if not os.path.exists(program):
+            sys.exit(f"no {program}: run `rt ci` first")
+    for solver, (command, _) in PEERS.items():
+        if not shutil.which(command[0]):
+            print(f"no {solver}: it is skipped")
+    with tempfile.TemporaryDirectory() as scratch:
+        folder = options.keep or scratch
+        os.makedirs(folder, exist_ok=True)
+        head()
+        for name, wanted, make in formulas():
+            if options.only not in name:
+                continue
+            circuit = make()
+            path = os.path.join(folder, f"{name} {wanted or 'unseen'}".replace(" ", "_") + ".cnf")
+            if len(circuit.clauses) <= options.most:
+                circuit.write(path)
+                compare(name, wanted, path, len(circuit.clauses), options)
+        if options.only in "loading":
+            load(2_000_000, scratch)
+
+
+if __name__ == "__main__":
+    main()
