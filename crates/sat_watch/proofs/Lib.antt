@@ -4,3 +4,4 @@ pub mod Spreading
 pub mod ListsGrow
 pub mod Seeing
 pub mod Readiness
+pub mod Weighing

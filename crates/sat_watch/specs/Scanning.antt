@@ -2,7 +2,7 @@
 use Rattle.std.specs.Prelude.{◌≡◌, ◌≢◌, ℕ, cond, IsTrue, IsFalse, ℤ, neg_ℤ, Some, List, slice_get, ◌⊎◌}
 use Rattle.cnf_base.specs.declared.judged.Judged.{Judged}
 use Rattle.cnf_base.specs.declared.judged.Judged.TheVariants.{Passed, Ended, Forces, Open}
-use Rattle.cnf_base.specs.Judged.{same_lit, has, IsPassedIn, IsRefutedIn}
+use Rattle.cnf_base.specs.Judged.{same_lit, has, IsPassedIn, IsRefutedIn, IsUnitIn}
 
 -- a judgement with one more open literal
 abbrev pub widened : Judged → ℤ → Judged
@@ -20,6 +20,13 @@ pub record HasTwoFree (looked_at clause : List ℤ) : Type 0 where
   pub different : first ≢ second
   pub first_free : IsFalse (has looked_at (neg_ℤ first))
   pub second_free : IsFalse (has looked_at (neg_ℤ second))
+
+-- a clause's judgement, where two literals that aren't false are enough to call it open
+abbrev pub Weighs : List ℤ → List ℤ → Judged → Type 0
+Weighs true_lits clause Passed = IsPassedIn true_lits clause
+Weighs true_lits clause Ended = IsRefutedIn true_lits clause
+Weighs true_lits clause (Forces l) = IsUnitIn true_lits clause l
+Weighs true_lits clause Open = HasTwoFree true_lits clause
 
 -- nothing is to be done for the clause after these literals were looked at
 abbrev pub Rests : List ℤ → List ℤ → List ℤ → Type 0

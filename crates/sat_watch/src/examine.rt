@@ -1,21 +1,24 @@
 //! Clauses are looked at one by one: a unit one forces its literal, and a false one ends the walk.
 
 ghost use Rattle.std.specs.Prelude.{◌≡◌, ℕ, ◌<◌, ◌≤◌, All, MatchBool, MatchOption, Contains, length, nat_abs};
-ghost use Rattle.cnf_base.specs.Judged.{judge};
 ghost use Rattle.sat_trail.specs.Trail.{lits};
 ghost use Rattle.sat_watch.specs.Book.{IsBookClause, Spreads};
-ghost use Rattle.sat_watch.specs.Scanning.{widened, RestsAt, IsRefutedAt};
+ghost use Rattle.sat_watch.specs.Scanning.{widened, Weighs, RestsAt, IsRefutedAt};
 
 use cnf_base::{Clause, CnfLit, Judged};
 use sat_trail::{ClauseId, Trail, Value};
 
-/// A clause where the trail's literals are true.
-fn judge(trail: &Trail, clause: &[CnfLit]) -> Judged
+/// A clause where the trail's literals are true. Two open literals are enough to know that nothing is to be done, so the
+/// literals after the second aren't looked at, and one of them may be true.
+fn weigh(trail: &Trail, clause: &[CnfLit]) -> Judged
     requires { All (λ l. nat_abs l ≤ trail.now.vars) clause.now }
-    ensures { result ≡ judge (lits trail.now.puts) clause.now }
+    ensures { Weighs (lits trail.now.puts) clause.now result }
 {
     let mut so_far = Judged::Ended;
     for lit in clause {
+        if let Judged::Open = so_far {
+            return Judged::Open;
+        }
         match trail.value(*lit) {
             Value::True => return Judged::Passed,
             Value::False => {}
@@ -45,7 +48,7 @@ pub fn examine(clauses: &[Clause], place: usize, trail: &mut Trail) -> bool
     ensures answer { MatchBool result (IsRefutedAt clauses.now (lits trail.new.puts) place)
         (RestsAt clauses.now (lits trail.new.puts) (lits trail.old.puts) place) }
 {
-    match judge(trail, clauses[place].as_slice()) {
+    match weigh(trail, clauses[place].as_slice()) {
         Judged::Ended => true,
         Judged::Forces(lit) => {
             trail.assume(lit, ClauseId::Book(place as u64));
