@@ -1,5 +1,5 @@
 -- The reasons of literals, and the clauses that they name.
-use Rattle.std.proofs.Common.{◌≡◌, ℕ, ◌<◌, true, false, ◌||◌, ◌^◌, ℤ, pos, nat_abs, Option, Some, List, [], take, get_or, ap, sym, ◌∙◌, subst, inl, inr}
+use Rattle.std.proofs.Common.{◌≡◌, ℕ, ◌<◌, true, false, ◌||◌, ◌^◌, ℤ, pos, nat_abs, Option, Some, None, List, [], take, get_or, refl, ap, sym, ◌∙◌, subst, inl, inr}
 use Rattle.std.specs.List.{slice_get, Contains}
 use Rattle.std.specs.Option.{option_map, option_and_then}
 use Rattle.std.proofs.lemmas.Bool.{or_cases}
@@ -11,7 +11,7 @@ use Rattle.sat_trail.specs.declared.clause_id.ClauseId.TheVariants as ids
 use Rattle.sat_trail.specs.Trail.{Put, TrailState, IsTrail, lits, put_of}
 use Rattle.sat_learn.specs.Reasons.{IsReason}
 use Rattle.sat_learn.specs.Resolving.{StandsAt, IsExplained, IsAntecedent}
-use Rattle.sat_learn.proofs.Puts.{put_finds, reason_at}
+use Rattle.sat_learn.proofs.Puts.{put_found, put_finds, reason_at}
 
 -- the literal at a place is that of its put
 pub lit_at : (ps : List Put) (place : ℕ) (p : Put) (lit : ℤ) → StandsAt ps place p → lit ≡ get_or (lits ps) place lit → lit ≡ p.lit
@@ -19,12 +19,20 @@ lit_at ps place p lit there is =
     let found : slice_get (lits ps) place ≡ Some p.lit = slice_get-map (λ (q : Put). q.lit) ps place ∙ ap (option_map (λ (q : Put). q.lit)) there in
     is ∙ get_or_from_slice_get (lits ps) place p.lit lit found
 
-pub reason_read : (t : TrailState) (place : ℕ) (p : Put) (lit : ℤ) (var : ℕ) (reason : Option ClauseId) → IsTrail t → StandsAt t.puts place p → lit ≡ get_or (lits t.puts) place lit → var ≡ nat_abs lit → reason ≡ option_and_then (λ (q : Put). q.reason) (put_of var t.puts) → reason ≡ p.reason
-reason_read t place p lit var reason h there lit_is var_is is =
-    let same : var ≡ nat_abs p.lit = var_is ∙ ap nat_abs (lit_at t.puts place p lit there lit_is) in
+-- what is read of a put is its reason
+pub reason_read : (t : TrailState) (place : ℕ) (p : Put) (var : ℕ) (reason : Option ClauseId) → IsTrail t → StandsAt t.puts place p → nat_abs p.lit ≡ var → reason ≡ option_and_then (λ (q : Put). q.reason) (put_of var t.puts) → reason ≡ p.reason
+reason_read t place p var reason h there of_var is =
     is
-    ∙ ap (λ v. option_and_then (λ (q : Put). q.reason) (put_of v t.puts)) same
+    ∙ ap (λ v. option_and_then (λ (q : Put). q.reason) (put_of v t.puts)) (sym of_var)
     ∙ ap (option_and_then (λ (q : Put). q.reason)) (put_finds t.puts place p h.distinct there)
+
+-- and where one is read it is that of a put
+pub reason_put : (puts : List Put) (var : ℕ) (reason : ClauseId) → Some reason ≡ option_and_then (λ (q : Put). q.reason) (put_of var puts) → (place : ℕ) × (p : Put) × StandsAt puts place p × (p.reason ≡ Some reason)
+reason_put puts var reason is = by_put (put_of var puts) refl is
+  where
+    by_put : (found : Option Put) → put_of var puts ≡ found → Some reason ≡ option_and_then (λ (q : Put). q.reason) found → (place : ℕ) × (p : Put) × StandsAt puts place p × (p.reason ≡ Some reason)
+    by_put None same e = cc
+    by_put (Some p) same e = (let place = put_found var puts p same in (place.0, p, place.1, sym e))
 
 -- what a reason in the book says
 pub book_reason : (clauses : List (List ℤ)) (names : List ℕ) (t : TrailState) (place : ℕ) (p : Put) (at : ℕ) → IsExplained clauses names t → StandsAt t.puts place p → p.reason ≡ Some (ids.Book at) → (clause : List ℤ) × (slice_get clauses at ≡ Some clause) × IsUnitIn (lits (take place t.puts)) clause p.lit

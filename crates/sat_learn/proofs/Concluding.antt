@@ -1,6 +1,6 @@
 -- The lesson from what is marked in the end.
-use Rattle.std.proofs.Common.{◌≡◌, ℕ, ◌+◌, ◌<◌, ◌≤◌, max, Bool, true, false, cond, eqb, ℤ, neg_ℤ, nat_abs, List, [], ◌∷◌, ◌++◌, length, map, take, get_or, refl, ap, sym, ◌∙◌, subst, arith, inl, inr}
-use Rattle.std.specs.List.{list_any, All, IsDistinct}
+use Rattle.std.proofs.Common.{◌≡◌, ℕ, ◌+◌, ◌<◌, ◌≤◌, max, Bool, true, false, cond, eqb, ℤ, neg_ℤ, nat_abs, List, [], ◌∷◌, ◌++◌, ◌⊎◌, length, map, take, get_or, refl, ap, sym, ◌∙◌, subst, arith, inl, inr}
+use Rattle.std.specs.List.{list_any, IsDistinct}
 use Rattle.std.proofs.lemmas.Bool.{cases_lt, cases_Bool, or_cases, or_left, or_right, or_parts, both_ways, eq-eqb, false_from_ne_true}
 use Rattle.std.proofs.lemmas.List.{take_more}
 use Rattle.std.proofs.lemmas.List.Elements.{All-cons}
@@ -12,24 +12,26 @@ use Rattle.lrat_text.specs.Accepted.{Ends}
 use Rattle.sat_trail.specs.Trail.{Put, TrailState, IsTrail, lits, upto}
 use Rattle.sat_trail.proofs.Valuing.{each_from}
 use Rattle.sat_learn.specs.Lesson.{IsLesson}
-use Rattle.sat_learn.specs.Resolving.{is_marked, Refutes, IsFalseAt}
-use Rattle.sat_learn.specs.Tracking.{IsGreatestLevel, IsResolved}
-use Rattle.sat_learn.proofs.Puts.{put_there, true_there, one_put, upto_true, true_upto, nat_abs-neg_ℤ, true_literal}
+use Rattle.sat_learn.specs.Resolving.{is_marked, StandsAt, Refutes, IsFalseAt}
+use Rattle.sat_learn.specs.Tracking.{IsGreatestLevel}
+use Rattle.sat_learn.proofs.Puts.{put_there, one_put, false_at_one, true_by, upto_true, true_upto, nat_abs-neg_ℤ, true_literal}
 use Rattle.sat_learn.proofs.Refuting.{refutes_end}
 use Rattle.sat_learn.proofs.Marking.{has_at}
 use Rattle.sat_learn.proofs.Tracked.{any_var}
 
+-- one literal of the present level is marked, at this place, and beside it those that are kept, each variable once
+pub record IsResolved (t : TrailState) (marks : List Bool) (kept : List ℤ) (place : ℕ) (first : ℤ) : Type 0 where
+  pub room : length marks ≡ t.vars + 1
+  pub above : 0 < t.level
+  pub put : Put
+  pub stands : StandsAt t.puts place put
+  pub at_level : put.level ≡ t.level
+  pub negated : first ≡ neg_ℤ put.lit
+  pub marked : (v : ℕ) → get_or marks v false ≡ true → (nat_abs put.lit ≡ v) ⊎ (list_any (eqb v) (map nat_abs kept) ≡ true)
+  pub kept_false : (l : ℤ) → has kept l ≡ true → (level : ℕ) × IsFalseAt t.puts l level × (0 < level) × (level < t.level)
+  pub distinct : IsDistinct eqb (map nat_abs kept)
+
 -- ---- false literals
-
-pub false_at_one : (t : TrailState) (l : ℤ) (a b : ℕ) → IsTrail t → IsFalseAt t.puts l a → IsFalseAt t.puts l b → a ≡ b
-false_at_one t l a b h x y =
-    let same = one_put t x.place y.place x.put y.put h x.stands y.stands (ap nat_abs (x.negated ∙ sym y.negated)) in
-    sym x.at_level ∙ ap (λ (p : Put). p.level) same ∙ y.at_level
-
-pub true_by : (t : TrailState) (l : ℤ) (level : ℕ) → IsFalseAt t.puts l level → has (lits t.puts) (neg_ℤ l) ≡ true
-true_by t l level x =
-    let P : ℤ → Type 0 = λ m. has (lits t.puts) m ≡ true in
-    subst P x.negated (true_there t.puts x.place x.put x.stands)
 
 false_upto : (t : TrailState) (l : ℤ) (level k : ℕ) → IsFalseAt t.puts l level → level ≤ k → has (lits (upto k t.puts)) (neg_ℤ l) ≡ true
 false_upto t l level k x le =
@@ -96,8 +98,8 @@ greatest_none t = record { covers = λ l k. cc; reached = inl refl }
 -- ---- the lesson
 
 -- the literal at the place is that of no kept one
-point_apart : (t : TrailState) (marks : List Bool) (kept : List ℤ) (place : ℕ) (h : IsResolved t marks kept place) → IsTrail t → list_any (eqb (nat_abs h.put.lit)) (map nat_abs kept) ≡ false
-point_apart t marks kept place h trail =
+point_apart : (t : TrailState) (marks : List Bool) (kept : List ℤ) (place : ℕ) (first : ℤ) (h : IsResolved t marks kept place first) → IsTrail t → list_any (eqb (nat_abs h.put.lit)) (map nat_abs kept) ≡ false
+point_apart t marks kept place first h trail =
     false_from_ne_true (list_any (eqb (nat_abs h.put.lit)) (map nat_abs kept)) (λ e.
     let found = any_var (nat_abs h.put.lit) kept e in
     let k = h.kept_false found.0 found.1 in
@@ -106,19 +108,20 @@ point_apart t marks kept place h trail =
     let levels : k.0 ≡ t.level = sym k.1.at_level ∙ ap (λ (p : Put). p.level) same ∙ h.at_level in
     absurd (omega arith))
 
-point_false : (t : TrailState) (marks : List Bool) (kept : List ℤ) (place : ℕ) (first : ℤ) (h : IsResolved t marks kept place) → first ≡ neg_ℤ h.put.lit → IsFalseAt t.puts first t.level
-point_false t marks kept place first h is =
+point_false : (t : TrailState) (marks : List Bool) (kept : List ℤ) (place : ℕ) (first : ℤ) (h : IsResolved t marks kept place first) → IsFalseAt t.puts first t.level
+point_false t marks kept place first h =
     record {
       put = h.put;
       place = place;
       stands = h.stands;
-      negated = sym (ap neg_ℤ is ∙ neg_ℤ-neg_ℤ h.put.lit);
+      negated = sym (ap neg_ℤ h.negated ∙ neg_ℤ-neg_ℤ h.put.lit);
       at_level = h.at_level;
     }
 
-pub lesson_from : (t : TrailState) (marks : List Bool) (kept : List ℤ) (place : ℕ) (first : ℤ) (back : ℕ) (hints : List ℤ) (h : IsResolved t marks kept place) → IsTrail t → first ≡ neg_ℤ h.put.lit → IsGreatestLevel t kept back → IsLesson t (record { lits = first ∷ kept; back = back; hints = hints })
-lesson_from t marks kept place first back hints h trail is greatest =
-    let point = point_false t marks kept place first h is in
+pub lesson_from : (t : TrailState) (marks : List Bool) (kept : List ℤ) (place : ℕ) (first : ℤ) (back : ℕ) (hints : List ℤ) (h : IsResolved t marks kept place first) → IsTrail t → IsGreatestLevel t kept back → IsLesson t (record { lits = first ∷ kept; back = back; hints = hints })
+lesson_from t marks kept place first back hints h trail greatest =
+    let is = h.negated in
+    let point = point_false t marks kept place first h in
     let above = h.above in
     let D : ℕ → Type 0 = λ n. IsDistinct eqb (n ∷ map nat_abs kept) in
     record {
@@ -129,7 +132,7 @@ lesson_from t marks kept place first back hints h trail is greatest =
           let l = get_or kept k d in
           let x = h.kept_false l (has_at kept k l d lt refl) in
           false_literal t l trail (true_by t l x.0 x.1));
-      distinct = subst D (sym (ap nat_abs is ∙ nat_abs-neg_ℤ h.put.lit)) (IsDistinct-cons eqb (nat_abs h.put.lit) (map nat_abs kept) (each_from (nat_abs h.put.lit) (map nat_abs kept) (point_apart t marks kept place h trail)) h.distinct);
+      distinct = subst D (sym (ap nat_abs is ∙ nat_abs-neg_ℤ h.put.lit)) (IsDistinct-cons eqb (nat_abs h.put.lit) (map nat_abs kept) (each_from (nat_abs h.put.lit) (map nat_abs kept) (point_apart t marks kept place first h trail)) h.distinct);
       first_false = false_upto t first t.level t.level point (omega arith);
       first_free = λ k lt. free_upto t first t.level k trail point lt;
       back_below = elim greatest.reached [
@@ -147,8 +150,9 @@ lesson_from t marks kept place first back hints h trail is greatest =
     }
 
 -- nothing is marked when these are unmarked
-pub none_marked : (t : TrailState) (marks : List Bool) (kept : List ℤ) (place : ℕ) (first : ℤ) (after : List Bool) (h : IsResolved t marks kept place) → first ≡ neg_ℤ h.put.lit → ((v : ℕ) → get_or after v false ≡ cond (list_any (eqb v) (map nat_abs (first ∷ kept))) false (get_or marks v false)) → (v : ℕ) → get_or after v false ≡ false
-none_marked t marks kept place first after h is each v =
+pub none_marked : (t : TrailState) (marks : List Bool) (kept : List ℤ) (place : ℕ) (first : ℤ) (after : List Bool) (h : IsResolved t marks kept place first) → ((v : ℕ) → get_or after v false ≡ cond (list_any (eqb v) (map nat_abs (first ∷ kept))) false (get_or marks v false)) → (v : ℕ) → get_or after v false ≡ false
+none_marked t marks kept place first after h each v =
+    let is = h.negated in
     each v ∙ (elim (cases_Bool (list_any (eqb v) (map nat_abs (first ∷ kept)))) [
       | inl e ↦ ap (λ b. cond b false (get_or marks v false)) e
       | inr e ↦ ap (λ b. cond b false (get_or marks v false)) e ∙ false_from_ne_true (get_or marks v false) (λ marked.
@@ -159,15 +163,15 @@ none_marked t marks kept place first after h is each v =
           ])
     ])
 
-pub lesson_follows : (t : TrailState) (marks : List Bool) (kept : List ℤ) (place : ℕ) (first : ℤ) (live : List (ℕ × List ℤ)) (hints : List ℤ) (h : IsResolved t marks kept place) → IsTrail t → first ≡ neg_ℤ h.put.lit → Refutes live (lits t.puts) marks hints → Ends live (map neg_ℤ (first ∷ kept)) hints
-lesson_follows t marks kept place first live hints h trail is refutes =
+pub lesson_follows : (t : TrailState) (marks : List Bool) (kept : List ℤ) (place : ℕ) (first : ℤ) (live : List (ℕ × List ℤ)) (hints : List ℤ) (h : IsResolved t marks kept place first) → IsTrail t → Refutes live (lits t.puts) marks hints → Ends live (map neg_ℤ (first ∷ kept)) hints
+lesson_follows t marks kept place first live hints h trail refutes =
     refutes_end live (lits t.puts) marks hints (first ∷ kept) each within refutes
   where
     each : (l : ℤ) → has (lits t.puts) l ≡ true → is_marked marks l ≡ true → has (first ∷ kept) (neg_ℤ l) ≡ true
     each l true_l marked =
         let P : ℤ → Type 0 = λ x. has (first ∷ kept) x ≡ true in
         elim (h.marked (nat_abs l) marked) [
-          | inl e ↦ (let same : first ≡ neg_ℤ l = negation_of t l first t.level trail true_l (point_false t marks kept place first h is) (ap nat_abs is ∙ nat_abs-neg_ℤ h.put.lit ∙ e) in
+          | inl e ↦ (let same : first ≡ neg_ℤ l = negation_of t l first t.level trail true_l (point_false t marks kept place first h) (ap nat_abs h.negated ∙ nat_abs-neg_ℤ h.put.lit ∙ e) in
               subst P same (has-head first kept))
           | inr e ↦ (let found = any_var (nat_abs l) kept e in
               let x = h.kept_false found.0 found.1 in
@@ -180,19 +184,6 @@ lesson_follows t marks kept place first live hints h trail is refutes =
         let P : ℤ → Type 0 = λ x. has (lits t.puts) x ≡ true in
         elim (or_cases (same_lit first (neg_ℤ l)) (has kept (neg_ℤ l)) k) [
           | inl e ↦ (let same : neg_ℤ first ≡ l = ap neg_ℤ (same_lit-true first (neg_ℤ l) e) ∙ neg_ℤ-neg_ℤ l in
-              subst P same (true_by t first t.level (point_false t marks kept place first h is)))
+              subst P same (true_by t first t.level (point_false t marks kept place first h)))
           | inr e ↦ (let x = h.kept_false (neg_ℤ l) e in subst P (neg_ℤ-neg_ℤ l) (true_by t (neg_ℤ l) x.0 x.1))
         ]
-
--- the lesson's literals have marks
-pub lesson_in_range : (t : TrailState) (marks : List Bool) (kept : List ℤ) (place : ℕ) (first : ℤ) (h : IsResolved t marks kept place) → IsTrail t → first ≡ neg_ℤ h.put.lit → All (λ l. nat_abs l < length marks) (first ∷ kept)
-lesson_in_range t marks kept place first h trail is =
-    let room = h.room in
-    All-cons (λ l. nat_abs l < length marks) first kept
-    (let literal = false_literal t first trail (true_by t first t.level (point_false t marks kept place first h is)) in let within = literal.variable in omega arith)
-    (λ k d lt.
-    let l = get_or kept k d in
-    let x = h.kept_false l (has_at kept k l d lt refl) in
-    let literal = false_literal t l trail (true_by t l x.0 x.1) in
-    let within = literal.variable in
-    omega arith)

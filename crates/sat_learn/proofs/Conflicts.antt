@@ -8,8 +8,8 @@ use Rattle.cnf_base.proofs.Literals.{neg_ℤ-neg_ℤ}
 use Rattle.lrat_text.specs.Accepted.{Ends}
 use Rattle.sat_trail.specs.Trail.{Put, TrailState, IsTrail, lits, upto}
 use Rattle.sat_learn.specs.Reasons.{IsCalled}
-use Rattle.sat_learn.specs.Resolving.{is_marked, StandsAt, Refutes, IsLastMarked, AreBelow, AreRootsClear, DifferAtRoots, with_marks}
-use Rattle.sat_learn.specs.Tracking.{is_open, IsFiled, IsKeptLit, IsTracked, IsResolved}
+use Rattle.sat_learn.specs.Resolving.{is_marked, StandsAt, Refutes, AreBelow, AreRootsClear, DifferAtRoots, with_marks}
+use Rattle.sat_learn.specs.Tracking.{is_open, IsFiled, IsBetween, IsTracked, IsPoint, IsReduced}
 use Rattle.sat_learn.proofs.Puts.{put_there, true_there, one_put, same_at, upto_true, true_upto, level_to, nat_abs-neg_ℤ}
 use Rattle.sat_learn.proofs.Refuting.{refutes_conflict}
 use Rattle.sat_learn.proofs.Counting.{count_some, count_one}
@@ -22,8 +22,8 @@ pub all_below : (ps : List Put) (marks : List Bool) (n : ℕ) → n ≡ length p
 all_below ps marks n is i p there marked = let lt = slice_get_within ps i p there in omega arith
 
 -- the put of a kept literal
-kept_put : (t : TrailState) (marks : List Bool) (i : ℕ) (p : Put) → IsTrail t → StandsAt t.puts i p → (h : IsKeptLit t marks (neg_ℤ p.lit)) → p.level ≡ h.level
-kept_put t marks i p trail there h =
+kept_put : (t : TrailState) (i : ℕ) (p : Put) → IsTrail t → StandsAt t.puts i p → (h : IsBetween t (neg_ℤ p.lit)) → p.level ≡ h.level
+kept_put t i p trail there h =
     let same : p ≡ h.false_at.put = one_put t i h.false_at.place p h.false_at.put trail there h.false_at.stands (ap nat_abs (sym (h.false_at.negated ∙ neg_ℤ-neg_ℤ p.lit))) in
     ap (λ (q : Put). q.level) same ∙ h.false_at.at_level
 
@@ -39,8 +39,8 @@ roots_clear_untracked t marks kept rooted number trail h none i p there root fro
     elim filed.filed [
       | inl e ↦ both_ways rooted none e.0
       | inr e ↦ elim e [
-        | inl k ↦ (let x = h.kept_lits (neg_ℤ filed.put.lit) k in
-            let levels = kept_put t marks filed.place filed.put trail filed.stands x in
+        | inl k ↦ (let x = h.between (neg_ℤ filed.put.lit) k in
+            let levels = kept_put t filed.place filed.put trail filed.stands x in
             let low = x.above_root in
             absurd (omega arith))
         | inr k ↦ absurd (omega arith)
@@ -75,8 +75,8 @@ conflict_open t marks kept rooted number conflict trail h marked false_now not_b
         elim filed.filed [
           | inl e ↦ (let root = e.1 in subst P lit_is (upto_true (t.level - 1) t.puts filed.place filed.put filed.stands (omega arith)))
           | inr e ↦ elim e [
-            | inl k ↦ (let x = h.kept_lits (neg_ℤ filed.put.lit) k in
-                let levels = kept_put t marks filed.place filed.put trail filed.stands x in
+            | inl k ↦ (let x = h.between (neg_ℤ filed.put.lit) k in
+                let levels = kept_put t filed.place filed.put trail filed.stands x in
                 let below = x.below_present in
                 subst P lit_is (upto_true (t.level - 1) t.puts filed.place filed.put filed.stands (omega arith)))
             | inr k ↦ (let here : is_marked marks filed.put.lit ≡ true = ap (λ n. get_or marks n false) filed.of_var ∙ marked l inside in
@@ -86,27 +86,35 @@ conflict_open t marks kept rooted number conflict trail h marked false_now not_b
         ]
 
 -- what is marked when one literal of the present level is left
-pub resolved_from : (t : TrailState) (marks after : List Bool) (kept : List ℤ) (rooted : Bool) (number place : ℕ) → IsTrail t → IsTracked t marks kept rooted number → number ≡ 1 → IsLastMarked t marks place → AreRootsClear t.puts after 0 → DifferAtRoots t.puts marks after → length after ≡ t.vars + 1 → IsResolved t after kept place
-resolved_from t marks after kept rooted number place trail h one last clear differ room =
+pub reduced_from : (t : TrailState) (marks after : List Bool) (kept : List ℤ) (rooted : Bool) (number place : ℕ) → IsTrail t → IsTracked t marks kept rooted number → number ≡ 1 → IsPoint t marks place → AreRootsClear t.puts after 0 → DifferAtRoots t.puts marks after → length after ≡ t.vars + 1 → IsReduced t after kept place
+reduced_from t marks after kept rooted number place trail h one point clear differ room =
     record {
-      room = room;
       above = h.above;
-      put = last.put;
-      stands = last.stands;
-      at_level = last.at_level;
+      room = room;
+      point = record {
+        put = point.put;
+        stands = point.stands;
+        marked = elim (differ (nat_abs point.put.lit)) [
+          | inl same ↦ same ∙ point.marked
+          | inr root ↦ (let is : root.put ≡ point.put = one_put t root.place place root.put point.put trail root.stands point.stands root.of_var in
+              let levels : 0 ≡ t.level = sym root.root ∙ ap (λ (q : Put). q.level) is ∙ point.at_level in
+              let above = h.above in
+              absurd (omega arith))
+        ];
+        at_level = point.at_level;
+      };
       marked = λ v m. elim (differ v) [
         | inl same ↦ by_file v (sym same ∙ m) (h.filed v (sym same ∙ m)) m
         | inr root ↦ absurd (not_rooted v root.place root.put root.stands root.root root.of_var m)
       ];
-      kept_false = λ l k. (let x = h.kept_lits l k in (x.level, x.false_at, x.above_root, x.below_present));
-      distinct = h.distinct;
+      between = h.between;
     }
   where
     not_rooted : (v i : ℕ) (p : Put) → StandsAt t.puts i p → p.level ≡ 0 → nat_abs p.lit ≡ v → get_or after v false ≡ true → ⊥
     not_rooted v i p there root of_var m =
         both_ways (is_marked after p.lit) (clear i p there root (omega arith)) (ap (λ n. get_or after n false) of_var ∙ m)
 
-    by_file : (v : ℕ) → get_or marks v false ≡ true → IsFiled t kept rooted v → get_or after v false ≡ true → (nat_abs last.put.lit ≡ v) ⊎ (list_any (eqb v) (map nat_abs kept) ≡ true)
+    by_file : (v : ℕ) → get_or marks v false ≡ true → IsFiled t kept rooted v → get_or after v false ≡ true → (nat_abs point.put.lit ≡ v) ⊎ (list_any (eqb v) (map nat_abs kept) ≡ true)
     by_file v old filed m =
         let P : ℕ → Type 0 = λ n. list_any (eqb n) (map nat_abs kept) ≡ true in
         let number_is = h.number in
@@ -116,8 +124,8 @@ resolved_from t marks after kept rooted number place trail h one last clear diff
             | inl k ↦ inr (subst P (nat_abs-neg_ℤ filed.put.lit ∙ filed.of_var) (any_from kept (neg_ℤ filed.put.lit) k))
             | inr k ↦ (let here : is_marked marks filed.put.lit ≡ true = ap (λ n. get_or marks n false) filed.of_var ∙ old in
                 let few : count_by (is_open t.level marks) t.puts ≤ 1 = omega arith in
-                let same = count_one (is_open t.level marks) t.puts place filed.place last.put filed.put few last.stands filed.stands (open_from t.level marks last.put last.marked last.at_level) (open_from t.level marks filed.put here k) in
-                let puts_are = same_at t.puts place filed.place last.put filed.put last.stands filed.stands same in
+                let same = count_one (is_open t.level marks) t.puts place filed.place point.put filed.put few point.stands filed.stands (open_from t.level marks point.put point.marked point.at_level) (open_from t.level marks filed.put here k) in
+                let puts_are = same_at t.puts place filed.place point.put filed.put point.stands filed.stands same in
                 inl (ap (λ (q : Put). nat_abs q.lit) puts_are ∙ filed.of_var))
           ]
         ]

@@ -9,3 +9,5 @@ pub mod AtRoot
 pub mod Concluding
 pub mod Conflicts
 pub mod Reasoned
+pub mod Taking
+pub mod Reducing

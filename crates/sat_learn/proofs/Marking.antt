@@ -1,5 +1,5 @@
 -- Marks on variables, and the last marked literal.
-use Rattle.std.proofs.Common.{◌≡◌, ℕ, zero, suc, ◌+◌, ◌<◌, Bool, true, false, cond, ◌||◌, eqb, ℤ, neg_ℤ, nat_abs, List, [], ◌∷◌, ◌++◌, length, map, take, set, get_or, replicate, ap, sym, ◌∙◌, subst, arith, inl, inr}
+use Rattle.std.proofs.Common.{◌≡◌, ℕ, zero, suc, ◌+◌, ◌<◌, Bool, true, false, ◌||◌, eqb, ℤ, neg_ℤ, nat_abs, List, [], ◌∷◌, ◌++◌, length, map, take, set, get_or, replicate, ap, sym, ◌∙◌, subst, arith, inl, inr}
 use Rattle.std.specs.List.{list_any, count_by}
 use Rattle.std.proofs.lemmas.Bool.{cases_eq, cases_lt, eq-eqb, ne_eqb, eqb-true, and_parts, and_from, both_ways, or_right}
 use Rattle.std.proofs.lemmas.List.{take_more, get_or-set_same, get_or-set_other, get_or_past, get_or_default, get_or-replicate, length-map, length-replicate, same_lists}
@@ -14,7 +14,7 @@ use Rattle.sat_learn.proofs.Puts.{put_at, levels_rise, level_to, true_literal, n
 use Rattle.sat_learn.proofs.Counting.{count_found}
 use Rattle.sat_learn.proofs.Antecedents.{lit_at}
 
-any_push : (v : ℕ) (ls : List ℤ) (l : ℤ) → list_any (eqb v) (map nat_abs (ls ++ l ∷ [])) ≡ (list_any (eqb v) (map nat_abs ls) || eqb v (nat_abs l))
+pub any_push : (v : ℕ) (ls : List ℤ) (l : ℤ) → list_any (eqb v) (map nat_abs (ls ++ l ∷ [])) ≡ (list_any (eqb v) (map nat_abs ls) || eqb v (nat_abs l))
 any_push v [] l = or-false (eqb v (nat_abs l))
 any_push v (m ∷ ms) l = let rest = any_push v ms l in grind arith
 
@@ -33,19 +33,6 @@ marked_more marks before ls i var lit lt is var_is room h v =
       | inr e ↦ (let differs : eqb v (nat_abs lit) ≡ false = ne_eqb v (nat_abs lit) (λ k. e (k ∙ sym var_is)) in
           get_or-set_other marks var v true false e ∙ h v
           ∙ ap (λ b. get_or before v false || b) (sym (more ∙ ap (λ b. list_any (eqb v) (map nat_abs (take i ls)) || b) differs ∙ or-false (list_any (eqb v) (map nat_abs (take i ls))))))
-    ]
-
--- one more isn't
-pub unmarked_more : (marks before : List Bool) (ls : List ℤ) (i var : ℕ) (lit : ℤ) → i < length ls → lit ≡ get_or ls i lit → var ≡ nat_abs lit → var < length marks → ((v : ℕ) → get_or marks v false ≡ cond (list_any (eqb v) (map nat_abs (take i ls))) false (get_or before v false)) → (v : ℕ) → get_or (set marks var false) v false ≡ cond (list_any (eqb v) (map nat_abs (take (i + 1) ls))) false (get_or before v false)
-unmarked_more marks before ls i var lit lt is var_is room h v =
-    let more = any_more v ls i lit lt is in
-    elim (cases_eq v var) [
-      | inl e ↦ (let here : get_or (set marks var false) v false ≡ false = ap (λ n. get_or (set marks var false) n false) e ∙ get_or-set_same marks var false false room in
-          let same : eqb v (nat_abs lit) ≡ true = eq-eqb v (nat_abs lit) (e ∙ var_is) in
-          here ∙ ap (λ b. cond b false (get_or before v false)) (sym (more ∙ or_right (list_any (eqb v) (map nat_abs (take i ls))) (eqb v (nat_abs lit)) same)))
-      | inr e ↦ (let differs : eqb v (nat_abs lit) ≡ false = ne_eqb v (nat_abs lit) (λ k. e (k ∙ sym var_is)) in
-          get_or-set_other marks var v false false e ∙ h v
-          ∙ ap (λ b. cond b false (get_or before v false)) (sym (more ∙ ap (λ b. list_any (eqb v) (map nat_abs (take i ls)) || b) differs ∙ or-false (list_any (eqb v) (map nat_abs (take i ls))))))
     ]
 
 pub literal_at : (t : TrailState) (place : ℕ) (lit : ℤ) → IsTrail t → place < length t.puts → lit ≡ get_or (lits t.puts) place lit → IsLiteral t.vars lit

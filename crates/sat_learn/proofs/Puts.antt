@@ -12,7 +12,7 @@ use Rattle.sat_trail.specs.declared.clause_id.ClauseId.{ClauseId}
 use Rattle.sat_trail.specs.Trail.{Put, TrailState, IsTrail, lits, upto, put_of, Climbs, Joins}
 use Rattle.sat_trail.proofs.Climbing.{Joins-near}
 use Rattle.sat_learn.specs.Reasons.{IsReason, AreReasons}
-use Rattle.sat_learn.specs.Resolving.{StandsAt}
+use Rattle.sat_learn.specs.Resolving.{StandsAt, IsFalseAt}
 
 pub put_there : (ps : List Put) (l : ℤ) → has (lits ps) l ≡ true → (i : ℕ) × (p : Put) × StandsAt ps i p × (p.lit ≡ l)
 put_there [] l h = cc
@@ -240,3 +240,15 @@ pub put_at : (ps : List Put) (i : ℕ) → i < length ps → (p : Put) × Stands
 put_at [] i lt = absurd (omega arith)
 put_at (p ∷ ps) zero lt = (p, refl)
 put_at (p ∷ ps) (suc i) lt = put_at ps i (omega arith)
+
+-- ---- false literals
+
+pub false_at_one : (t : TrailState) (l : ℤ) (a b : ℕ) → IsTrail t → IsFalseAt t.puts l a → IsFalseAt t.puts l b → a ≡ b
+false_at_one t l a b h x y =
+    let same = one_put t x.place y.place x.put y.put h x.stands y.stands (ap nat_abs (x.negated ∙ sym y.negated)) in
+    sym x.at_level ∙ ap (λ (p : Put). p.level) same ∙ y.at_level
+
+pub true_by : (t : TrailState) (l : ℤ) (level : ℕ) → IsFalseAt t.puts l level → has (lits t.puts) (neg_ℤ l) ≡ true
+true_by t l level x =
+    let P : ℤ → Type 0 = λ m. has (lits t.puts) m ≡ true in
+    subst P x.negated (true_there t.puts x.place x.put x.stands)

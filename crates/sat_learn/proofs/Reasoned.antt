@@ -1,5 +1,5 @@
 -- Reasons stay as a trail grows.
-use Rattle.std.proofs.Common.{◌≡◌, ℕ, ℤ, Option, Some, None, List, [], ◌∷◌, ◌++◌, refl, ap, sym, ◌∙◌, subst}
+use Rattle.std.proofs.Common.{ℕ, ℤ, Option, Some, List, [], ◌∷◌, ◌++◌, sym, subst}
 use Rattle.std.proofs.lemmas.List.{append-nil, append_assoc}
 use Rattle.cnf_base.specs.Judged.{IsUnitIn}
 use Rattle.sat_trail.specs.declared.clause_id.ClauseId.{ClauseId}

@@ -1,15 +1,13 @@
 -- How the marks stay tracked while a conflict is resolved.
 use Rattle.std.proofs.Common.{◌≡◌, ℕ, ◌+◌, ◌-◌, ◌<◌, Bool, true, false, ◌&&◌, eqb, ℤ, neg_ℤ, nat_abs, List, [], ◌∷◌, ◌++◌, length, map, set, get_or, ◌⊎◌, refl, ap, sym, ◌∙◌, subst, arith, inl, inr}
-use Rattle.std.specs.List.{list_any, count_by, IsDistinct}
-use Rattle.std.specs.Cmp.{nat_eq_equiv}
-use Rattle.std.proofs.lemmas.Bool.{cases_eq, cases_lt, eqb-true, ne_eqb, or_cases, or_left, or_right, and_right, and_left, both_ways, false_from_ne_true}
-use Rattle.std.proofs.lemmas.List.{length-set, get_or-set_same, get_or-set_other, map_push}
-use Rattle.std.proofs.lemmas.Map.Keys.{IsDistinct-push, IsDistinct-from_apart}
+use Rattle.std.specs.List.{list_any, count_by}
+use Rattle.std.proofs.lemmas.Bool.{cases_eq, cases_lt, eqb-true, ne_eqb, or_cases, or_left, or_right, and_right, and_left, both_ways}
+use Rattle.std.proofs.lemmas.List.{length-set, get_or-set_same, get_or-set_other}
 use Rattle.cnf_base.specs.Judged.{same_lit, has}
 use Rattle.cnf_base.proofs.Literals.{same_lit-true, has-head, has-append, neg_ℤ-neg_ℤ}
 use Rattle.sat_trail.specs.Trail.{Put, TrailState, IsTrail}
 use Rattle.sat_learn.specs.Resolving.{is_marked, StandsAt, IsFalseAt}
-use Rattle.sat_learn.specs.Tracking.{is_open, IsFiled, IsKeptLit, IsTracked}
+use Rattle.sat_learn.specs.Tracking.{is_open, IsFiled, IsBetween, IsTracked}
 use Rattle.sat_learn.proofs.Puts.{nat_abs-neg_ℤ, one_place, one_put}
 use Rattle.sat_learn.proofs.Counting.{count_found, count_same, count_one_more}
 use Rattle.sat_learn.proofs.Marking.{open_parts, open_from}
@@ -41,7 +39,7 @@ open_elsewhere : (t : TrailState) (marks : List Bool) (var : ℕ) (b : Bool) (i 
 open_elsewhere t marks var b i p level h there of_var j q here differs =
     ap (λ m. m && eqb q.level level) (kept_mark marks var b q.lit (λ e. differs (one_place t.puts j i q p h.distinct here there (e ∙ sym of_var))))
 
-count_other_level : (t : TrailState) (marks : List Bool) (var : ℕ) (b : Bool) (i : ℕ) (p : Put) → IsTrail t → StandsAt t.puts i p → nat_abs p.lit ≡ var → (p.level ≡ t.level → ⊥) → count_by (is_open t.level marks) t.puts ≡ count_by (is_open t.level (set marks var b)) t.puts
+pub count_other_level : (t : TrailState) (marks : List Bool) (var : ℕ) (b : Bool) (i : ℕ) (p : Put) → IsTrail t → StandsAt t.puts i p → nat_abs p.lit ≡ var → (p.level ≡ t.level → ⊥) → count_by (is_open t.level marks) t.puts ≡ count_by (is_open t.level (set marks var b)) t.puts
 count_other_level t marks var b i p h there of_var differs =
     count_same (is_open t.level marks) (is_open t.level (set marks var b)) t.puts each
   where
@@ -80,16 +78,6 @@ filed_more t marks kept more rooted roots l p i there of_var here grows roots_gr
           })
     ]
 
-kept_marked : (t : TrailState) (marks : List Bool) (var : ℕ) (x : ℤ) → var < length marks → IsKeptLit t marks x → IsKeptLit t (set marks var true) x
-kept_marked t marks var x room h =
-    record {
-      level = h.level;
-      false_at = h.false_at;
-      above_root = h.above_root;
-      below_present = h.below_present;
-      marked = still_marked marks var x room h.marked;
-    }
-
 pub track_root : (t : TrailState) (marks : List Bool) (kept : List ℤ) (rooted : Bool) (number : ℕ) (l : ℤ) (level : ℕ) → IsTrail t → IsTracked t marks kept rooted number → nat_abs l < length marks → IsFalseAt t.puts l level → level ≡ 0 → IsTracked t (set marks (nat_abs l) true) kept true number
 track_root t marks kept rooted number l level trail h room at root =
     let of_var : nat_abs at.put.lit ≡ nat_abs l = ap nat_abs at.negated ∙ nat_abs-neg_ℤ l in
@@ -100,13 +88,12 @@ track_root t marks kept rooted number l level trail h room at root =
       above = h.above;
       room = length-set marks (nat_abs l) true ∙ h.room;
       filed = filed_more t marks kept kept rooted true l at.put at.place at.stands of_var (inl (refl, at.at_level ∙ root)) (λ x k. k) (λ e. refl) h.filed;
-      kept_lits = λ x k. kept_marked t marks (nat_abs l) x room (h.kept_lits x k);
-      distinct = h.distinct;
+      between = h.between;
       number = h.number ∙ count_other_level t marks (nat_abs l) true at.place at.put trail at.stands of_var differs;
     }
 
-pub track_kept : (t : TrailState) (marks : List Bool) (kept : List ℤ) (rooted : Bool) (number : ℕ) (l : ℤ) (level : ℕ) → IsTrail t → IsTracked t marks kept rooted number → nat_abs l < length marks → is_marked marks l ≡ false → IsFalseAt t.puts l level → (level ≡ 0 → ⊥) → level < t.level → IsTracked t (set marks (nat_abs l) true) (kept ++ l ∷ []) rooted number
-track_kept t marks kept rooted number l level trail h room unmarked at above below =
+pub track_kept : (t : TrailState) (marks : List Bool) (kept : List ℤ) (rooted : Bool) (number : ℕ) (l : ℤ) (level : ℕ) → IsTrail t → IsTracked t marks kept rooted number → nat_abs l < length marks → IsFalseAt t.puts l level → (level ≡ 0 → ⊥) → level < t.level → IsTracked t (set marks (nat_abs l) true) (kept ++ l ∷ []) rooted number
+track_kept t marks kept rooted number l level trail h room at above below =
     let of_var : nat_abs at.put.lit ≡ nat_abs l = ap nat_abs at.negated ∙ nat_abs-neg_ℤ l in
     let level_is = at.at_level in
     let differs : at.put.level ≡ t.level → ⊥ = λ e. absurd (omega arith) in
@@ -114,29 +101,18 @@ track_kept t marks kept rooted number l level trail h room unmarked at above bel
     let there : has (kept ++ l ∷ []) l ≡ true = has-append kept (l ∷ []) l ∙ or_right (has kept l) (has (l ∷ []) l) (has-head l []) in
     let negation : l ≡ neg_ℤ at.put.lit = sym (ap neg_ℤ at.negated ∙ neg_ℤ-neg_ℤ l) in
     let H : ℤ → Type 0 = λ x. has (kept ++ l ∷ []) x ≡ true in
-    let D : List ℕ → Type 0 = λ ns. IsDistinct eqb ns in
-    let K : ℤ → Type 0 = λ x. IsKeptLit t (set marks (nat_abs l) true) x in
-    let free : list_any (eqb (nat_abs l)) (map nat_abs kept) ≡ false = false_from_ne_true (list_any (eqb (nat_abs l)) (map nat_abs kept)) (λ e.
-    let found = any_var (nat_abs l) kept e in
-    both_ways (is_marked marks l) unmarked (ap (λ n. get_or marks n false) (sym found.2) ∙ (h.kept_lits found.0 found.1).marked)) in
+    let K : ℤ → Type 0 = λ x. IsBetween t x in
     record {
       above = h.above;
       room = length-set marks (nat_abs l) true ∙ h.room;
       filed = filed_more t marks kept (kept ++ l ∷ []) rooted rooted l at.put at.place at.stands of_var (inr (inl (subst H negation there))) grows (λ e. e) h.filed;
-      kept_lits = λ x k. elim (or_cases (has kept x) (has (l ∷ []) x) (sym (has-append kept (l ∷ []) x) ∙ k)) [
-        | inl e ↦ kept_marked t marks (nat_abs l) x room (h.kept_lits x e)
+      between = λ x k. elim (or_cases (has kept x) (has (l ∷ []) x) (sym (has-append kept (l ∷ []) x) ∙ k)) [
+        | inl e ↦ h.between x e
         | inr e ↦ elim (or_cases (same_lit l x) false e) [
-          | inl f ↦ subst K (same_lit-true l x f) (record {
-            level = level;
-            false_at = at;
-            above_root = omega arith;
-            below_present = below;
-            marked = get_or-set_same marks (nat_abs l) true false room;
-          })
+          | inl f ↦ subst K (same_lit-true l x f) (record { level = level; false_at = at; above_root = omega arith; below_present = below })
           | inr f ↦ cc
         ]
       ];
-      distinct = subst D (sym (map_push nat_abs kept l)) (IsDistinct-push nat_eq_equiv (map nat_abs kept) (nat_abs l) h.distinct free);
       number = h.number ∙ count_other_level t marks (nat_abs l) true at.place at.put trail at.stands of_var differs;
     }
 
@@ -154,8 +130,7 @@ track_open t marks kept rooted number l level trail h room unmarked at present =
       above = h.above;
       room = length-set marks (nat_abs l) true ∙ h.room;
       filed = filed_more t marks kept kept rooted rooted l at.put at.place at.stands of_var (inr (inr level_is)) (λ x k. k) (λ e. e) h.filed;
-      kept_lits = λ x k. kept_marked t marks (nat_abs l) x room (h.kept_lits x k);
-      distinct = h.distinct;
+      between = h.between;
       number = ap (λ n. n + 1) h.number ∙ sym more;
     }
 
@@ -178,20 +153,7 @@ track_unmark t marks kept rooted number i p trail h there level_is marked room =
             absurd (both_ways (get_or (set marks var false) v false) gone k))
         | inr e ↦ h.filed v (sym (get_or-set_other marks var v false false e) ∙ k)
       ];
-      kept_lits = λ x k. (let old = h.kept_lits x k in
-          let other : nat_abs x ≡ var → ⊥ = λ e.
-          (let same : old.false_at.put ≡ p = one_put t old.false_at.place i old.false_at.put p trail old.false_at.stands there (ap nat_abs old.false_at.negated ∙ nat_abs-neg_ℤ x ∙ e) in
-          let levels : old.level ≡ t.level = sym old.false_at.at_level ∙ ap (λ (q : Put). q.level) same ∙ level_is in
-          let below = old.below_present in
-          absurd (omega arith)) in
-          record {
-            level = old.level;
-            false_at = old.false_at;
-            above_root = old.above_root;
-            below_present = old.below_present;
-            marked = kept_mark marks var false x other ∙ old.marked;
-          });
-      distinct = h.distinct;
+      between = h.between;
       number = omega arith;
     }
 
@@ -203,8 +165,7 @@ track_none t marks above room unmarked =
       above = above;
       room = room;
       filed = λ v k. absurd (both_ways (get_or marks v false) (unmarked v) k);
-      kept_lits = λ x k. cc;
-      distinct = IsDistinct-from_apart eqb [] (λ i j d lt lt2. absurd (omega arith));
+      between = λ x k. cc;
       number = elim (cases_lt 0 (count_by (is_open t.level marks) t.puts)) [
         | inl some ↦ (let found = count_found (is_open t.level marks) t.puts some in
             absurd (both_ways (is_marked marks found.1.lit) (unmarked (nat_abs found.1.lit)) (open_parts t.level marks found.1 found.3).0))

@@ -1,5 +1,5 @@
 -- What is known of the marks while a conflict is resolved down to the first unique implication point.
-use Rattle.std.specs.Prelude.{◌≡◌, ℕ, ◌+◌, ◌<◌, ◌≤◌, IsTrue, Bool, false, ◌&&◌, nat_eq, ℤ, neg_ℤ, nat_abs, List, length, map, count_by, slice_index_or, ◌⊎◌}
+use Rattle.std.specs.Prelude.{◌≡◌, ℕ, ◌+◌, ◌<◌, ◌≤◌, IsTrue, Bool, false, ◌&&◌, nat_eq, ℤ, neg_ℤ, nat_abs, List, ◌∷◌, if◌then◌else◌, length, map, count_by, slice_index_or, ◌⊎◌}
 use Rattle.std.specs.List.{IsDistinct, list_any}
 use Rattle.cnf_base.specs.Judged.{has}
 use Rattle.sat_trail.specs.Trail.{Put, TrailState}
@@ -17,21 +17,24 @@ pub record IsFiled (t : TrailState) (kept : List ℤ) (rooted : Bool) (var : ℕ
   pub of_var : nat_abs put.lit ≡ var
   pub filed : (IsTrue rooted × (put.level ≡ 0)) ⊎ (IsTrue (has kept (neg_ℤ put.lit)) ⊎ (put.level ≡ t.level))
 
--- a literal is marked, and false at a level between 0 and the present one
-pub record IsKeptLit (t : TrailState) (marks : List Bool) (l : ℤ) : Type 0 where
+-- a literal is false at a level between 0 and the present one
+pub record IsBetween (t : TrailState) (l : ℤ) : Type 0 where
   pub level : ℕ
   pub false_at : IsFalseAt t.puts l level
   pub above_root : 0 < level
   pub below_present : level < t.level
-  pub marked : IsTrue (is_marked marks l)
 
--- the marked variables, the kept literals, whether one of level 0 is marked, and how many of the present level are
+-- a literal is marked, or false at a level below the present one
+abbrev pub IsEarlier : TrailState → List Bool → ℤ → Type 0
+IsEarlier t marks l = IsTrue (is_marked marks l) ⊎ ((level : ℕ) × IsFalseAt t.puts l level × (level < t.level))
+
+-- the marked variables, the literals that are or were kept, whether one of level 0 is marked, and how many of the present
+-- level are
 pub record IsTracked (t : TrailState) (marks : List Bool) (kept : List ℤ) (rooted : Bool) (open_count : ℕ) : Type 0 where
   pub above : 0 < t.level
   pub room : length marks ≡ t.vars + 1
   pub filed : (v : ℕ) → IsTrue (slice_index_or marks v false) → IsFiled t kept rooted v
-  pub kept_lits : (l : ℤ) → IsTrue (has kept l) → IsKeptLit t marks l
-  pub distinct : IsDistinct nat_eq (map nat_abs kept)
+  pub between : (l : ℤ) → IsTrue (has kept l) → IsBetween t l
   pub number : open_count ≡ count_by (is_open t.level marks) t.puts
 
 -- a level that no kept literal is above, and that one has where it isn't 0
@@ -39,13 +42,26 @@ pub record IsGreatestLevel (t : TrailState) (kept : List ℤ) (level : ℕ) : Ty
   pub covers : (l : ℤ) → IsTrue (has kept l) → (low : ℕ) × (low ≤ level) × IsFalseAt t.puts l low
   pub reached : (level ≡ 0) ⊎ ((l : ℤ) × IsTrue (has kept l) × IsFalseAt t.puts l level)
 
--- one literal of the present level is marked, at this place, and beside it those that are kept
-pub record IsResolved (t : TrailState) (marks : List Bool) (kept : List ℤ) (place : ℕ) : Type 0 where
-  pub room : length marks ≡ t.vars + 1
-  pub above : 0 < t.level
+-- the literal at a place is marked and of the present level
+pub record IsPoint (t : TrailState) (marks : List Bool) (place : ℕ) : Type 0 where
   pub put : Put
   pub stands : StandsAt t.puts place put
+  pub marked : IsTrue (is_marked marks put.lit)
   pub at_level : put.level ≡ t.level
-  pub marked : (v : ℕ) → IsTrue (slice_index_or marks v false) → (nat_abs put.lit ≡ v) ⊎ IsTrue (list_any (nat_eq v) (map nat_abs kept))
-  pub kept_false : (l : ℤ) → IsTrue (has kept l) → (level : ℕ) × IsFalseAt t.puts l level × (0 < level) × (level < t.level)
-  pub distinct : IsDistinct nat_eq (map nat_abs kept)
+
+-- it is the one of the present level, and beside it some of those that were kept are marked
+pub record IsReduced (t : TrailState) (marks : List Bool) (kept : List ℤ) (place : ℕ) : Type 0 where
+  pub above : 0 < t.level
+  pub room : length marks ≡ t.vars + 1
+  pub point : IsPoint t marks place
+  pub marked : (v : ℕ) → IsTrue (slice_index_or marks v false) → (nat_abs point.put.lit ≡ v) ⊎ IsTrue (list_any (nat_eq v) (map nat_abs kept))
+  pub between : (l : ℤ) → IsTrue (has kept l) → IsBetween t l
+
+-- the first literal and those of the kept ones that are marked, each variable once; they aren't marked any more
+pub record IsTaken (old new : List Bool) (kept : List ℤ) (first : ℤ) (taken : List ℤ) : Type 0 where
+  pub others : List ℤ
+  pub form : taken ≡ first ∷ others
+  pub from_kept : (l : ℤ) → IsTrue (has others l) → IsTrue (has kept l)
+  pub distinct : IsDistinct nat_eq (map nat_abs taken)
+  pub unmarked : (v : ℕ) → slice_index_or new v false ≡ (if list_any (nat_eq v) (map nat_abs taken) then false else slice_index_or old v false)
+  pub covers : (l : ℤ) → IsTrue (has kept l) → IsTrue (is_marked old l) → IsTrue (list_any (nat_eq (nat_abs l)) (map nat_abs taken))

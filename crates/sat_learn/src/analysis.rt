@@ -4,7 +4,7 @@ ghost use Rattle.std.specs.Prelude.{◌≡◌, ℤ, ℕ, ◌+◌, ◌<◌, ◌�
 ghost use Rattle.cnf_base.specs.Judged.{has};
 ghost use Rattle.sat_trail.specs.Trail.{lits, IsTrail};
 ghost use Rattle.sat_learn.specs.Resolving.{is_marked, IsFalseAt, with_marks};
-ghost use Rattle.sat_learn.specs.Tracking.{IsTracked};
+ghost use Rattle.sat_learn.specs.Tracking.{IsEarlier, IsTracked};
 
 use cnf_base::CnfLit;
 use ketch_base::OutOfMemory;
@@ -63,6 +63,7 @@ fn note(
     ensures marks { marks.new ≡ slice_set marks.old (nat_abs lit) true }
     ensures hints { analysis.new.hints ≡ analysis.old.hints }
     ensures count { analysis.old.open_count ≤ analysis.new.open_count }
+    ensures stays { IsEarlier trail.now marks.old lit → analysis.new.open_count ≡ analysis.old.open_count }
 {
     let place = lit.var() as usize;
     if marks[place] {
@@ -95,6 +96,7 @@ pub fn note_all(
     ensures marks { OnOk result ((v : ℕ) → slice_index_or marks.new v false ≡ with_marks clause.now marks.old v) }
     ensures hints { analysis.new.hints ≡ analysis.old.hints }
     ensures count { analysis.old.open_count ≤ analysis.new.open_count }
+    ensures stays { OnOk result (((l : ℤ) → IsTrue (has clause.now l) → IsEarlier trail.now marks.old l) → analysis.new.open_count ≡ analysis.old.open_count) }
 {
     for lit in clause {
         note(trail, marks, analysis, *lit)?;

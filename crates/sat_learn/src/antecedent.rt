@@ -1,6 +1,6 @@
 //! The clause that a literal was put for.
 
-ghost use Rattle.std.specs.Prelude.{◌≡◌, ◌<◌, length};
+ghost use Rattle.std.specs.Prelude.{◌≡◌, ℕ, ◌<◌, ◌≤◌, nat_abs, None, MatchOption, length};
 ghost use Rattle.sat_trail.specs.Trail.{Put};
 ghost use Rattle.sat_learn.specs.Resolving.{StandsAt, IsExplained, IsForcedAt, IsAntecedent};
 
@@ -15,6 +15,34 @@ pub struct Antecedent<'a> {
     pub hint: i64,
 }
 
+/// A decision has none, and neither has a variable that is unassigned.
+pub fn find_antecedent<'a>(
+    trail: &Trail,
+    book: &'a ClauseBook,
+    names: &[u64],
+    var: u32,
+) -> Option<Antecedent<'a>>
+    requires explained { IsExplained book.now.clauses names.now trail.now }
+    requires not_zero { 0 < var }
+    requires in_range { var ≤ trail.now.vars }
+    ensures { (place : ℕ) (p : Put) → StandsAt trail.now.puts place p → nat_abs p.lit ≡ var
+        → MatchOption result (p.reason ≡ None)
+        (λ found. IsAntecedent book.now.clauses names.now trail.now.puts place p found.lits.now found.hint) }
+{
+    match trail.reason_of(var) {
+        Some(ClauseId::Book(at)) => Some(Antecedent {
+            lits: book.clause(ClauseId::Book(at)).as_slice(),
+            hint: names[at as usize] as i64,
+        }),
+        Some(ClauseId::Unit(id)) => Some(Antecedent {
+            lits: &[],
+            hint: id as i64,
+        }),
+        None => None,
+    }
+}
+
+/// That of a literal that isn't a decision.
 pub fn antecedent_of<'a>(
     trail: &Trail,
     book: &'a ClauseBook,
@@ -26,16 +54,8 @@ pub fn antecedent_of<'a>(
     ensures { (p : Put) → StandsAt trail.now.puts place p
         → IsAntecedent book.now.clauses names.now trail.now.puts place p result.lits.now result.hint }
 {
-    let var = trail.at(place).var();
-    match trail.reason_of(var) {
-        Some(ClauseId::Book(at)) => Antecedent {
-            lits: book.clause(ClauseId::Book(at)).as_slice(),
-            hint: names[at as usize] as i64,
-        },
-        Some(ClauseId::Unit(id)) => Antecedent {
-            lits: &[],
-            hint: id as i64,
-        },
+    match find_antecedent(trail, book, names, trail.at(place).var()) {
+        Some(found) => found,
         None => unreachable!(),
     }
 }

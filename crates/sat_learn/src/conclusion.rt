@@ -1,19 +1,19 @@
 //! The lesson from what is marked in the end.
 
-ghost use Rattle.std.specs.Prelude.{◌≡◌, ℕ, ℤ, List, ◌≤◌, ◌<◌, IsTrue, All, false, neg_ℤ, nat_abs, map, reverse, slice_index_or, IfOk, OnOk};
+ghost use Rattle.std.specs.Prelude.{◌≡◌, ℕ, ℤ, List, ◌≤◌, ◌<◌, IsTrue, All, false, neg_ℤ, nat_abs, length, map, reverse, IsPermutation, slice_index_or, IfOk, OnOk};
 ghost use Rattle.cnf_base.specs.Judged.{has};
 ghost use Rattle.lrat_text.specs.Accepted.{Ends};
 ghost use Rattle.sat_trail.specs.Trail.{lits, IsTrail};
 ghost use Rattle.sat_learn.specs.Lesson.{IsLesson};
 ghost use Rattle.sat_learn.specs.Resolving.{Refutes};
-ghost use Rattle.sat_learn.specs.Tracking.{IsGreatestLevel, IsResolved};
+ghost use Rattle.sat_learn.specs.Tracking.{IsGreatestLevel, IsReduced, IsTaken};
 
 use crate::analysis::{Analysis, level_of_false};
 use crate::lesson::{Lesson, new_lesson};
-use crate::marks::unmark_all;
 use cnf_base::CnfLit;
 use ketch_base::OutOfMemory;
 use sat_trail::Trail;
+use std::alloc::Global;
 
 fn negated(lit: CnfLit) -> CnfLit
     requires { nat_abs lit ≤ 4000000 }
@@ -35,29 +35,73 @@ fn greatest_level(trail: &Trail, kept: &[CnfLit]) -> u32
     greatest
 }
 
-/// The lesson where the marked literals are those that are kept and the one at this place. Unmarks all.
+/// The level of a literal's variable; where it has none, 0.
+fn level_or_zero(trail: &Trail, lit: CnfLit) -> u32 {
+    let var = lit.var();
+    if var > trail.vars() {
+        return 0;
+    }
+    match trail.level_of(var) {
+        Some(level) => level,
+        None => 0,
+    }
+}
+
+/// Puts literals of lower levels first: a search that takes variables in this order finds more of its conflicts early.
+fn sort_by_level(trail: &Trail, kept: &mut [CnfLit])
+    ensures { IsPermutation kept.old kept.new }
+{
+    kept.sort_unstable_by_key(|lit| level_or_zero(trail, *lit));
+}
+
+/// The first literal and those of the kept ones that are marked, each variable once. Unmarks them.
+fn take_marked(
+    alloc: Global,
+    marks: &mut [bool],
+    kept: &[CnfLit],
+    first: CnfLit,
+) -> Result<Vec<CnfLit>, OutOfMemory>
+    requires first { nat_abs first < length marks.old }
+    requires kept { All (λ l. nat_abs l < length marks.old) kept.now }
+    ensures { IfOk result (λ taken. IsTaken marks.old marks.new kept.now first taken.items) }
+{
+    let mut taken = Vec::new(alloc);
+    taken.push(first)?;
+    marks[first.var() as usize] = false;
+    for lit in kept {
+        let place = lit.var() as usize;
+        if marks[place] {
+            marks[place] = false;
+            taken.push(*lit)?;
+        }
+    }
+    Ok(taken)
+}
+
+/// The lesson where the literal at this place and some of the kept ones are marked. Unmarks all.
 pub fn conclude(
+    alloc: Global,
     trail: &Trail,
     marks: &mut [bool],
     analysis: Analysis,
     place: u32,
 ) -> Result<Lesson, OutOfMemory>
     requires trail { IsTrail trail.now }
-    requires resolved { IsResolved trail.now marks.old analysis.kept.items place }
+    requires reduced { IsReduced trail.now marks.old analysis.kept.items place }
     ensures lesson { IfOk result (IsLesson trail.now) }
     ensures marks { OnOk result ((v : ℕ) → slice_index_or marks.new v false ≡ false) }
     ensures follows { IfOk result (λ lesson. (live : List (ℕ × List ℤ)) → Refutes live (lits trail.now.puts) marks.old (reverse analysis.hints.items)
         → Ends live (map neg_ℤ lesson.lits) lesson.hints) }
 {
     let Analysis {
-        kept: mut lits,
+        mut kept,
         hints,
         rooted: _,
         open_count: _,
     } = analysis;
-    let back = greatest_level(trail, &lits);
+    sort_by_level(trail, &mut kept);
     let first = negated(trail.at(place));
-    lits.insert(0, first)?;
-    unmark_all(marks, &lits);
-    Ok(new_lesson(lits, back, hints))
+    let taken = take_marked(alloc, marks, &kept, first)?;
+    let back = greatest_level(trail, &taken[1..]);
+    Ok(new_lesson(taken, back, hints))
 }

@@ -8,6 +8,7 @@ ghost use Rattle.sat_learn.specs.Reasons.{AreReasons, IsCalled, AreCalled};
 ghost use Rattle.sat_learn.specs.Lesson.{IsLesson};
 
 use crate::lesson::Lesson;
+use crate::reduction::Visit;
 use crate::resolution::{analyze, refute_marked};
 use cnf_base::Clause;
 use ketch_base::OutOfMemory;
@@ -23,16 +24,18 @@ pub struct Learner {
     vars: u32,
     alloc: Global,
     marks: Vec<bool>,
+    visits: Vec<Visit>,
 }
 
 impl Model for Learner {
-    ghost use Rattle.std.specs.Prelude.{◌≡◌, ℕ, ◌+◌, false, replicate, ◌≤◌};
+    ghost use Rattle.std.specs.Prelude.{◌≡◌, ℕ, ◌+◌, false, replicate, length, ◌≤◌};
 
     ghost Value = { ℕ };
 
     ghost view = { λ l. l.vars };
 
-    ghost invariant = { λ l. (l.vars ≤ 4000000) × (l.marks.items ≡ replicate (l.vars + 1) false) };
+    ghost invariant = { λ l. (l.vars ≤ 4000000) × (l.marks.items ≡ replicate (l.vars + 1) false)
+        × (length l.visits.items ≡ l.vars + 1) };
 }
 
 impl Learner {
@@ -41,7 +44,13 @@ impl Learner {
         ensures { IfOk result (λ learner. learner ≡ vars) }
     {
         let marks = vec![in alloc; false; vars as usize + 1]?;
-        Ok(Learner { vars, alloc, marks })
+        let visits = vec![in alloc; Visit::Unknown; vars as usize + 1]?;
+        Ok(Learner {
+            vars,
+            alloc,
+            marks,
+            visits,
+        })
     }
 
     /// The clause to learn from one that is false, above level 0, where the literals below the present level don't make
@@ -75,12 +84,14 @@ impl Learner {
             book,
             names,
             &mut self.marks,
+            &mut self.visits,
             conflict.as_slice(),
             id as i64,
         ) {
             Ok(lesson) => Ok(lesson),
             Err(OutOfMemory) => {
                 self.marks.fill(false);
+                self.visits.fill(Visit::Unknown);
                 Err(OutOfMemory)
             }
         }

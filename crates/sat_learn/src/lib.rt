@@ -8,6 +8,7 @@ mod learner;
 mod lesson;
 mod marks;
 mod point;
+mod reduction;
 mod resolution;
 mod roots;
 #[cfg(test)]

@@ -1,5 +1,4 @@
-//! The first unique implication point: the first literal of the present level, from the trail's end, that all its
-//! marked literals come from.
+//! The walk back over the present level, to the first unique implication point.
 
 ghost use Rattle.std.specs.Prelude.{◌≡◌, ◌<◌, length, OnOk, IfOk};
 ghost use Rattle.sat_learn.specs.Resolving.{Resolves, IsExplained, AreBelow, IsLastMarked};

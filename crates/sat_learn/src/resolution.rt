@@ -14,6 +14,7 @@ use crate::conclusion::conclude;
 use crate::lesson::{Lesson, in_order};
 use crate::marks::mark_all;
 use crate::point::resolve_present;
+use crate::reduction::{Visit, reduce};
 use crate::roots::resolve_roots;
 use cnf_base::CnfLit;
 use ketch_base::OutOfMemory;
@@ -51,12 +52,14 @@ pub fn analyze(
     book: &ClauseBook,
     names: &[u64],
     marks: &mut [bool],
+    visits: &mut [Visit],
     conflict: &[CnfLit],
     hint: i64,
 ) -> Result<Lesson, OutOfMemory>
     requires explained { IsExplained book.now.clauses names.now trail.now }
     requires above { 0 < trail.now.level }
     requires room { length marks.old ≡ trail.now.vars + 1 }
+    requires room_too { length visits.old ≡ trail.now.vars + 1 }
     requires unmarked { (v : ℕ) → slice_index_or marks.old v false ≡ false }
     requires false_now { IsRefutedIn (lits trail.now.puts) conflict.now }
     requires not_before { ¬ IsRefutedIn (lits (upto (trail.now.level - 1) trail.now.puts)) conflict.now }
@@ -69,8 +72,9 @@ pub fn analyze(
     analysis.hints.push(hint)?;
     note_all(trail, marks, &mut analysis, conflict)?;
     let place = resolve_present(trail, book, names, marks, &mut analysis)?;
+    reduce(alloc, trail, book, names, marks, visits, &mut analysis)?;
     resolve_any_roots(trail, book, names, marks, &mut analysis)?;
-    let lesson = conclude(trail, marks, analysis, place)?;
+    let lesson = conclude(alloc, trail, marks, analysis, place)?;
     Ok(lesson)
 }
 

@@ -14,6 +14,7 @@ loop-lit-init c =
       marked = λ v. sym (or-false (get_or c.args.marks.now v false));
       hints = refl;
       count = omega arith;
+      stays = λ earlier. refl;
     }
 
 pub note-requires-clause-in_range : goal.note-requires-clause-in_range
@@ -56,6 +57,10 @@ loop-lit-preserved c =
           ∙ marked_more c.loop-lit.marks c.args.marks.now c.args.clause.now i (nat_abs lit) lit c.loop-lit-test.true c.lit-item.is refl in_range c.loop-lit.invariant.marked v;
       hints = c.in_ok-note.ensures.hints ∙ c.loop-lit.invariant.hints;
       count = omega arith;
+      stays = λ earlier. c.in_ok-note.ensures.stays (elim (earlier lit there) [
+        | inl e ↦ inl (c.loop-lit.invariant.marked (nat_abs lit) ∙ or_left (get_or c.args.marks.now (nat_abs lit) false) (list_any (eqb (nat_abs lit)) (map nat_abs (take i c.args.clause.now))) e)
+        | inr e ↦ inr e
+      ]) ∙ c.loop-lit.invariant.stays earlier;
     }
 
 pub returns-clause-marks : goal.returns-clause-marks

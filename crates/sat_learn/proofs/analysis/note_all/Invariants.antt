@@ -1,6 +1,7 @@
-use Rattle.std.proofs.Common.{◌≡◌, ℕ, ◌≤◌, false, take, get_or}
+use Rattle.std.proofs.Common.{◌≡◌, ℕ, ◌≤◌, true, false, ℤ, take, get_or}
 use Rattle.sat_learn.specs.Resolving.{with_marks}
-use Rattle.sat_learn.specs.Tracking.{IsTracked}
+use Rattle.cnf_base.specs.Judged.{has}
+use Rattle.sat_learn.specs.Tracking.{IsEarlier, IsTracked}
 use Rattle.sat_learn.proofs.analysis.note_all.Given as goal
 
 -- the variables so far are marked
@@ -11,4 +12,5 @@ invariant-loop-lit l =
       marked : (v : ℕ) → get_or l.marks v false ≡ with_marks (take l.lit-index l.clause) l.initial.marks v;
       hints : l.analysis.hints ≡ l.initial.analysis.hints;
       count : l.initial.analysis.open_count ≤ l.analysis.open_count;
+      stays : ((x : ℤ) → has l.clause x ≡ true → IsEarlier l.trail l.initial.marks x) → l.analysis.open_count ≡ l.initial.analysis.open_count;
     }

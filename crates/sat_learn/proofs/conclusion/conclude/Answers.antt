@@ -1,74 +1,126 @@
-use Rattle.std.proofs.Common.{◌≡◌, ◌<◌, true, false, cond, eqb, ℤ, neg_ℤ, nat_abs, List, ◌∷◌, length, map, reverse, get_or, ap, sym, ◌∙◌, subst, arith}
-use Rattle.std.specs.List.{list_any, All}
+use Rattle.std.proofs.Common.{◌≡◌, ◌-◌, ◌<◌, true, false, cond, eqb, ℤ, neg_ℤ, nat_abs, List, ◌∷◌, length, map, take, drop, get_or, reverse, refl, ap, sym, ◌∙◌, subst, arith}
+use Rattle.std.specs.List.{All, list_any}
+use Rattle.std.specs.List.Sorted.{IsPermutation}
+use Rattle.std.proofs.lemmas.List.{take_rest, with_items_is}
 use Rattle.std.proofs.lemmas.Option.{slice_get_within}
 use Rattle.cnf_base.specs.Judged.{has}
 use Rattle.lrat_text.specs.Accepted.{Ends}
 use Rattle.sat_learn.specs.Lesson.{LessonState, IsLesson}
-use Rattle.sat_learn.specs.Tracking.{IsGreatestLevel}
+use Rattle.sat_learn.specs.Tracking.{IsGreatestLevel, IsTaken}
+use Rattle.sat_learn.proofs.Puts.{nat_abs-neg_ℤ, true_by}
 use Rattle.sat_learn.proofs.Antecedents.{lit_at}
-use Rattle.sat_learn.proofs.Marking.{literal_at}
-use Rattle.sat_learn.proofs.Concluding.{true_by, lesson_from, none_marked, lesson_follows, lesson_in_range}
+use Rattle.sat_learn.proofs.Marking.{literal_at, has_at, false_in_range}
+use Rattle.sat_learn.proofs.Concluding.{lesson_from, none_marked, lesson_follows}
+use Rattle.sat_learn.proofs.Taking.{reduced_permuted, resolved_from}
 use Rattle.sat_learn.proofs.conclusion.conclude.Goals as goal
 
-pub greatest_level-back-requires-clause-false_now : goal.greatest_level-back-requires-clause-false_now
-greatest_level-back-requires-clause-false_now c l inside =
-    let P : List ℤ → Type 0 = λ ls. has ls l ≡ true in
-    let x = c.requires.resolved.kept_false l (subst P c.deref.ensures.value inside) in
-    true_by c.args.trail.now l x.0 x.1
-
 pub at-requires : goal.at-requires
-at-requires c = slice_get_within c.args.trail.now.puts c.args.place c.requires.resolved.put c.requires.resolved.stands
+at-requires c = slice_get_within c.args.trail.now.puts c.args.place c.requires.reduced.point.put c.requires.reduced.point.stands
 
 pub negated-first-requires : goal.negated-first-requires
 negated-first-requires c =
     let t = c.args.trail.now in
-    let lt = slice_get_within t.puts c.args.place c.requires.resolved.put c.requires.resolved.stands in
+    let lt = slice_get_within t.puts c.args.place c.requires.reduced.point.put c.requires.reduced.point.stands in
     let literal = literal_at t c.args.place c.at.result c.requires.trail lt c.at.ensures in
     omega (arith, literal.variable, c.requires.trail.few_vars)
 
-pub unmark_all-requires : goal.unmark_all-requires
-unmark_all-requires c =
+pub take_marked-requires-clause-first : goal.take_marked-requires-clause-first
+take_marked-requires-clause-first c =
     let t = c.args.trail.now in
-    let h = c.requires.resolved in
+    let lt = slice_get_within t.puts c.args.place c.requires.reduced.point.put c.requires.reduced.point.stands in
+    let literal = literal_at t c.args.place c.at.result c.requires.trail lt c.at.ensures in
+    let same : nat_abs c.negated-first.result ≡ nat_abs c.at.result = ap nat_abs c.negated-first.ensures ∙ nat_abs-neg_ℤ c.at.result in
+    omega (arith, literal.variable, c.requires.reduced.room)
+
+pub take_marked-requires-clause-kept : goal.take_marked-requires-clause-kept
+take_marked-requires-clause-kept c =
+    let t = c.args.trail.now in
+    let kept = c.sort_by_level.new.kept in
+    let len : length kept ≡ c.args.analysis.kept.len = omega (arith, c.sort_by_level.auto.kept, c.deref_mut.ensures.len) in
+    let P : List ℤ → Type 0 = λ ls. IsPermutation ls kept in
+    let h = reduced_permuted t c.args.marks.now c.args.analysis.kept.items kept c.args.place (subst P c.deref_mut.ensures.value c.sort_by_level.ensures) c.requires.reduced in
+    let Q : List ℤ → Type 0 = λ ls. All (λ l. nat_abs l < length c.args.marks.now) ls in
+    subst Q (sym (c.deref.ensures.value ∙ with_items_is c.args.analysis.kept kept len)) (λ k d lt.
+    let l = get_or kept k d in
+    let x = h.between l (has_at kept k l d lt refl) in
+    false_in_range t c.args.marks.now l c.requires.trail h.room (true_by t l x.level x.false_at))
+
+pub greatest_level-back-requires-clause-false_now : goal.greatest_level-back-requires-clause-false_now
+greatest_level-back-requires-clause-false_now c l inside =
+    let t = c.args.trail.now in
+    let kept = c.sort_by_level.new.kept in
+    let len : length kept ≡ c.args.analysis.kept.len = omega (arith, c.sort_by_level.auto.kept, c.deref_mut.ensures.len) in
+    let P : List ℤ → Type 0 = λ ls. IsPermutation ls kept in
+    let h = reduced_permuted t c.args.marks.now c.args.analysis.kept.items kept c.args.place (subst P c.deref_mut.ensures.value c.sort_by_level.ensures) c.requires.reduced in
+    let k = c.in_ok-taken.ensures in
     let first = c.negated-first.result in
-    let first_is : first ≡ neg_ℤ h.put.lit = c.negated-first.ensures ∙ ap neg_ℤ (lit_at t.puts c.args.place h.put c.at.result h.stands c.at.ensures) in
-    let lits_are : c.deref-2.result.now ≡ first ∷ c.args.analysis.kept.items = c.deref-2.ensures.value ∙ c.in_ok-insert.ensures.items in
-    let P : List ℤ → Type 0 = λ ls. All (λ l. nat_abs l < length c.args.marks.now) ls in
-    subst P (sym lits_are) (lesson_in_range t c.args.marks.now c.args.analysis.kept.items c.args.place first h c.requires.trail first_is)
+    let first_is : first ≡ neg_ℤ h.point.put.lit = c.negated-first.ensures ∙ ap neg_ℤ (lit_at t.puts c.args.place h.point.put c.at.result h.point.stands c.at.ensures) in
+    let kept_is = c.deref.ensures.value ∙ with_items_is c.args.analysis.kept kept len in
+    let K : List ℤ → Type 0 = λ ls. IsTaken c.args.marks.now c.take_marked.new.marks ls first c.in_ok-taken.taken.items in
+    let taken : IsTaken c.args.marks.now c.take_marked.new.marks kept first c.in_ok-taken.taken.items = subst K kept_is k in
+    let resolved = resolved_from t c.args.marks.now c.take_marked.new.marks kept c.args.place first c.in_ok-taken.taken.items h taken first_is in
+    let rest_is : take (length c.deref-2.result.now - 1) (drop 1 c.deref-2.result.now) ≡ taken.others = take_rest c.deref-2.result.now 1 ∙ ap (drop 1) (c.deref-2.ensures.value ∙ taken.form) in
+    let H : List ℤ → Type 0 = λ ls. has ls l ≡ true in
+    let x = resolved.kept_false l (subst H rest_is inside) in
+    true_by t l x.0 x.1
 
 pub returns-clause-lesson : goal.returns-clause-lesson
 returns-clause-lesson c =
     let t = c.args.trail.now in
-    let h = c.requires.resolved in
+    let kept = c.sort_by_level.new.kept in
+    let len : length kept ≡ c.args.analysis.kept.len = omega (arith, c.sort_by_level.auto.kept, c.deref_mut.ensures.len) in
+    let P : List ℤ → Type 0 = λ ls. IsPermutation ls kept in
+    let h = reduced_permuted t c.args.marks.now c.args.analysis.kept.items kept c.args.place (subst P c.deref_mut.ensures.value c.sort_by_level.ensures) c.requires.reduced in
+    let k = c.in_ok-taken.ensures in
     let first = c.negated-first.result in
+    let first_is : first ≡ neg_ℤ h.point.put.lit = c.negated-first.ensures ∙ ap neg_ℤ (lit_at t.puts c.args.place h.point.put c.at.result h.point.stands c.at.ensures) in
+    let kept_is = c.deref.ensures.value ∙ with_items_is c.args.analysis.kept kept len in
+    let K : List ℤ → Type 0 = λ ls. IsTaken c.args.marks.now c.take_marked.new.marks ls first c.in_ok-taken.taken.items in
+    let taken : IsTaken c.args.marks.now c.take_marked.new.marks kept first c.in_ok-taken.taken.items = subst K kept_is k in
+    let resolved = resolved_from t c.args.marks.now c.take_marked.new.marks kept c.args.place first c.in_ok-taken.taken.items h taken first_is in
+    let rest_is : take (length c.deref-2.result.now - 1) (drop 1 c.deref-2.result.now) ≡ taken.others = take_rest c.deref-2.result.now 1 ∙ ap (drop 1) (c.deref-2.ensures.value ∙ taken.form) in
     let back = c.greatest_level-back.result in
     let hints = reverse c.args.analysis.hints.items in
-    let first_is : first ≡ neg_ℤ h.put.lit = c.negated-first.ensures ∙ ap neg_ℤ (lit_at t.puts c.args.place h.put c.at.result h.stands c.at.ensures) in
-    let G : List ℤ → Type 0 = λ ls. IsGreatestLevel t ls back in
     let made : List ℤ → LessonState = λ ls. record { lits = ls; back = back; hints = hints } in
-    let is : c.new_lesson.result ≡ made (first ∷ c.args.analysis.kept.items) = c.new_lesson.ensures ∙ ap made c.in_ok-insert.ensures.items in
+    let is : c.new_lesson.result ≡ made (first ∷ taken.others) = c.new_lesson.ensures ∙ ap made taken.form in
+    let G : List ℤ → Type 0 = λ ls. IsGreatestLevel t ls back in
     let L : LessonState → Type 0 = λ l. IsLesson t l in
-    subst L (sym is) (lesson_from t c.args.marks.now c.args.analysis.kept.items c.args.place first back hints h c.requires.trail first_is (subst G c.deref.ensures.value c.greatest_level-back.ensures))
+    subst L (sym is) (lesson_from t c.args.marks.now taken.others c.args.place first back hints resolved c.requires.trail (subst G rest_is c.greatest_level-back.ensures))
 
 pub returns-clause-marks : goal.returns-clause-marks
 returns-clause-marks c =
     let t = c.args.trail.now in
-    let h = c.requires.resolved in
+    let kept = c.sort_by_level.new.kept in
+    let len : length kept ≡ c.args.analysis.kept.len = omega (arith, c.sort_by_level.auto.kept, c.deref_mut.ensures.len) in
+    let P : List ℤ → Type 0 = λ ls. IsPermutation ls kept in
+    let h = reduced_permuted t c.args.marks.now c.args.analysis.kept.items kept c.args.place (subst P c.deref_mut.ensures.value c.sort_by_level.ensures) c.requires.reduced in
+    let k = c.in_ok-taken.ensures in
     let first = c.negated-first.result in
-    let first_is : first ≡ neg_ℤ h.put.lit = c.negated-first.ensures ∙ ap neg_ℤ (lit_at t.puts c.args.place h.put c.at.result h.stands c.at.ensures) in
-    let lits_are : c.deref-2.result.now ≡ first ∷ c.args.analysis.kept.items = c.deref-2.ensures.value ∙ c.in_ok-insert.ensures.items in
-    none_marked t c.args.marks.now c.args.analysis.kept.items c.args.place first c.unmark_all.new.marks h first_is
-    (λ v. c.unmark_all.ensures v ∙ ap (λ ls. cond (list_any (eqb v) (map nat_abs ls)) false (get_or c.args.marks.now v false)) lits_are)
+    let first_is : first ≡ neg_ℤ h.point.put.lit = c.negated-first.ensures ∙ ap neg_ℤ (lit_at t.puts c.args.place h.point.put c.at.result h.point.stands c.at.ensures) in
+    let kept_is = c.deref.ensures.value ∙ with_items_is c.args.analysis.kept kept len in
+    let K : List ℤ → Type 0 = λ ls. IsTaken c.args.marks.now c.take_marked.new.marks ls first c.in_ok-taken.taken.items in
+    let taken : IsTaken c.args.marks.now c.take_marked.new.marks kept first c.in_ok-taken.taken.items = subst K kept_is k in
+    let resolved = resolved_from t c.args.marks.now c.take_marked.new.marks kept c.args.place first c.in_ok-taken.taken.items h taken first_is in
+    none_marked t c.args.marks.now taken.others c.args.place first c.take_marked.new.marks resolved
+    (λ v. taken.unmarked v ∙ ap (λ ls. cond (list_any (eqb v) (map nat_abs ls)) false (get_or c.args.marks.now v false)) taken.form)
 
 pub returns-clause-follows : goal.returns-clause-follows
 returns-clause-follows c live refutes =
     let t = c.args.trail.now in
-    let h = c.requires.resolved in
+    let kept = c.sort_by_level.new.kept in
+    let len : length kept ≡ c.args.analysis.kept.len = omega (arith, c.sort_by_level.auto.kept, c.deref_mut.ensures.len) in
+    let P : List ℤ → Type 0 = λ ls. IsPermutation ls kept in
+    let h = reduced_permuted t c.args.marks.now c.args.analysis.kept.items kept c.args.place (subst P c.deref_mut.ensures.value c.sort_by_level.ensures) c.requires.reduced in
+    let k = c.in_ok-taken.ensures in
     let first = c.negated-first.result in
+    let first_is : first ≡ neg_ℤ h.point.put.lit = c.negated-first.ensures ∙ ap neg_ℤ (lit_at t.puts c.args.place h.point.put c.at.result h.point.stands c.at.ensures) in
+    let kept_is = c.deref.ensures.value ∙ with_items_is c.args.analysis.kept kept len in
+    let K : List ℤ → Type 0 = λ ls. IsTaken c.args.marks.now c.take_marked.new.marks ls first c.in_ok-taken.taken.items in
+    let taken : IsTaken c.args.marks.now c.take_marked.new.marks kept first c.in_ok-taken.taken.items = subst K kept_is k in
+    let resolved = resolved_from t c.args.marks.now c.take_marked.new.marks kept c.args.place first c.in_ok-taken.taken.items h taken first_is in
     let back = c.greatest_level-back.result in
     let hints = reverse c.args.analysis.hints.items in
-    let first_is : first ≡ neg_ℤ h.put.lit = c.negated-first.ensures ∙ ap neg_ℤ (lit_at t.puts c.args.place h.put c.at.result h.stands c.at.ensures) in
     let made : List ℤ → LessonState = λ ls. record { lits = ls; back = back; hints = hints } in
-    let is : c.new_lesson.result ≡ made (first ∷ c.args.analysis.kept.items) = c.new_lesson.ensures ∙ ap made c.in_ok-insert.ensures.items in
+    let is : c.new_lesson.result ≡ made (first ∷ taken.others) = c.new_lesson.ensures ∙ ap made taken.form in
     let E : LessonState → Type 0 = λ l. Ends live (map neg_ℤ l.lits) l.hints in
-    subst E (sym is) (lesson_follows t c.args.marks.now c.args.analysis.kept.items c.args.place first live hints h c.requires.trail first_is refutes)
+    subst E (sym is) (lesson_follows t c.args.marks.now taken.others c.args.place first live hints resolved c.requires.trail refutes)

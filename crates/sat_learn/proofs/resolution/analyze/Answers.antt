@@ -1,9 +1,9 @@
 use Rattle.std.proofs.Common.{◌≡◌, ◌+◌, [], ◌∷◌, ◌++◌, List, ℤ, length, ap, sym, ◌∙◌, subst, arith}
 use mir.Syntax.{w64}
 use Rattle.std.proofs.lemmas.Int.{to_z-of_z}
-use Rattle.sat_learn.specs.Tracking.{IsResolved}
+use Rattle.sat_learn.specs.Tracking.{IsPoint, IsReduced}
 use Rattle.sat_learn.proofs.Tracked.{track_begun}
-use Rattle.sat_learn.proofs.Conflicts.{conflict_open, conflict_marked, resolved_from, conflict_refutes}
+use Rattle.sat_learn.proofs.Conflicts.{conflict_open, conflict_marked, reduced_from, conflict_refutes}
 use Rattle.sat_learn.proofs.resolution.analyze.Goals as goal
 
 pub note_all-requires-clause-tracked : goal.note_all-requires-clause-tracked
@@ -18,15 +18,18 @@ resolve_present-requires-clause-count c =
     let marked = conflict_marked c.args.marks.now c.note_all.new.marks c.args.conflict.now c.in_ok-note_all.ensures.marks in
     conflict_open c.args.trail.now c.note_all.new.marks a.kept.items a.rooted a.open_count c.args.conflict.now c.requires.explained.trail c.in_ok-note_all.ensures.tracked marked c.requires.false_now c.requires.not_before
 
-pub conclude-requires-clause-resolved : goal.conclude-requires-clause-resolved
-conclude-requires-clause-resolved c =
+pub conclude-requires-clause-reduced : goal.conclude-requires-clause-reduced
+conclude-requires-clause-reduced c =
     let t = c.args.trail.now in
-    let a = c.resolve_present.new.analysis in
+    let a = c.reduce.new.analysis in
     let after = c.resolve_any_roots.new.marks in
-    let room : length after ≡ t.vars + 1 = omega (arith, c.requires.room, c.note_all.auto.marks, c.resolve_present.auto.marks, c.resolve_any_roots.auto.marks) in
-    let P : List ℤ → Type 0 = λ ls. IsResolved t after ls c.in_ok-place.place in
+    let place = c.in_ok-place.place in
+    let last = c.in_ok-place.ensures.last in
+    let point : IsPoint t c.resolve_present.new.marks place = record { put = last.put; stands = last.stands; marked = last.marked; at_level = last.at_level } in
+    let room : length after ≡ t.vars + 1 = omega (arith, c.requires.room, c.note_all.auto.marks, c.resolve_present.auto.marks, c.reduce.auto.marks, c.resolve_any_roots.auto.marks) in
+    let P : List ℤ → Type 0 = λ ls. IsReduced t after ls place in
     subst P (ap (λ v. v.items) (sym c.in_ok-resolve_any_roots.ensures.kept))
-    (resolved_from t c.resolve_present.new.marks after a.kept.items a.rooted a.open_count c.in_ok-place.place c.requires.explained.trail c.in_ok-place.ensures.tracked c.in_ok-place.ensures.count c.in_ok-place.ensures.last c.in_ok-resolve_any_roots.ensures.clear c.in_ok-resolve_any_roots.ensures.others room)
+    (reduced_from t c.reduce.new.marks after a.kept.items a.rooted a.open_count place c.requires.explained.trail c.in_ok-reduce.ensures.tracked (c.in_ok-reduce.ensures.count ∙ c.in_ok-place.ensures.count) (c.in_ok-reduce.ensures.point place point) c.in_ok-resolve_any_roots.ensures.clear c.in_ok-resolve_any_roots.ensures.others room)
 
 pub returns-clause-follows : goal.returns-clause-follows
 returns-clause-follows c live id hint_is called conflict_called =
@@ -38,5 +41,6 @@ returns-clause-follows c live id hint_is called conflict_called =
     let marked = conflict_marked c.args.marks.now c.note_all.new.marks c.args.conflict.now c.in_ok-note_all.ensures.marks in
     let begun = conflict_refutes t live c.args.conflict.now id c.args.hint c.note_all.new.marks hints c.requires.explained.trail c.requires.false_now conflict_called hint_is pushed marked in
     let present = c.in_ok-place.ensures.resolves live called begun in
-    let roots = c.in_ok-resolve_any_roots.ensures.resolves live called present in
+    let reduced = c.in_ok-reduce.ensures.resolves live called present in
+    let roots = c.in_ok-resolve_any_roots.ensures.resolves live called reduced in
     c.in_ok-lesson.ensures.follows live roots

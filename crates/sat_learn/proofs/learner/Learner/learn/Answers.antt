@@ -12,7 +12,10 @@ invariant_of-self c =
     let marks = c.analyze.new.marks in
     let len : length marks ≡ s.marks.len = omega (arith, c.analyze.auto.marks, c.deref_mut.ensures.len) in
     let room : length marks ≡ s.vars + 1 = c.analyze.auto.marks ∙ ap length c.deref_mut.ensures.value ∙ ap length c.self.invariant.1 ∙ length-replicate (s.vars + 1) false in
-    (c.self.invariant.0, with_items_is s.marks marks len ∙ unmarked_is marks (s.vars + 1) room c.in-Ok.ensures.unmarked)
+    let visits = c.analyze.new.visits in
+    let visits_len : length visits ≡ s.visits.len = omega (arith, c.analyze.auto.visits, c.deref_mut-2.ensures.len) in
+    let visits_room : length visits ≡ s.vars + 1 = c.analyze.auto.visits ∙ ap length c.deref_mut-2.ensures.value ∙ c.self.invariant.2 in
+    (c.self.invariant.0, with_items_is s.marks marks len ∙ unmarked_is marks (s.vars + 1) room c.in-Ok.ensures.unmarked, ap length (with_items_is s.visits visits visits_len) ∙ visits_room)
 
 pub returns-in-Ok-clause-follows : goal.returns-in-Ok-clause-follows
 returns-in-Ok-clause-follows c live called conflict_called =

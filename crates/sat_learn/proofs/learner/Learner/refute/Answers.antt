@@ -12,7 +12,7 @@ invariant_of-self c =
     let marks = c.refute_marked.new.marks in
     let len : length marks ≡ s.marks.len = omega (arith, c.refute_marked.auto.marks, c.deref_mut.ensures.len) in
     let room : length marks ≡ s.vars + 1 = c.refute_marked.auto.marks ∙ ap length c.deref_mut.ensures.value ∙ ap length c.self.invariant.1 ∙ length-replicate (s.vars + 1) false in
-    (c.self.invariant.0, with_items_is s.marks marks len ∙ unmarked_is marks (s.vars + 1) room c.in-Ok.ensures.unmarked)
+    (c.self.invariant.0, with_items_is s.marks marks len ∙ unmarked_is marks (s.vars + 1) room c.in-Ok.ensures.unmarked, c.self.invariant.2)
 
 pub returns-in-Ok-clause-follows : goal.returns-in-Ok-clause-follows
 returns-in-Ok-clause-follows c live called conflict_called =
