@@ -1,9 +1,7 @@
 -- A clause that is held: what stands, and what propagation asks for.
-use Rattle.std.proofs.Common.{◌≡◌, ◌≢◌, ℕ, ◌+◌, ◌<◌, ◌^◌, true, false, ℤ, neg_ℤ, Some, List, [], ◌∷◌, ◌++◌, length, refl, ap, sym, ◌∙◌, subst, arith, inl, inr}
-use Rattle.std.specs.List.{Contains}
-use Rattle.std.proofs.lemmas.Bool.{or_left, or_right, both_ways}
-use Rattle.std.proofs.lemmas.List.{length_push}
-use Rattle.std.proofs.lemmas.List.Elements.{All-push, Contains-push_cases, Contains-push}
+use Rattle.std.proofs.Common.{◌≡◌, ◌≢◌, ℕ, ◌<◌, ◌^◌, true, false, ℤ, neg_ℤ, Some, List, [], ◌∷◌, ◌++◌, length, refl, ap, sym, ◌∙◌, subst, arith, inl, inr}
+use Rattle.std.proofs.lemmas.Bool.{or_right, both_ways}
+use Rattle.std.proofs.lemmas.List.Elements.{All-push, Contains-push}
 use Rattle.cnf_base.specs.Judged.{has, IsRefutedIn, IsUnitIn}
 use Rattle.cnf_base.proofs.Literals.{has-head, has-append}
 use Rattle.sat_trail.specs.declared.clause_id.ClauseId.TheVariants as ids
@@ -15,58 +13,25 @@ use Rattle.sat_watch.proofs.Readiness.{followed_more}
 use Rattle.sat_watch.proofs.Spreading.{lits-append}
 use Rattle.sat_learn.specs.Reasons.{IsCalled}
 use Rattle.sat_solver.specs.Keeping.{Holds}
-use Rattle.sat_solver.specs.Sound.{IsCovered, IsSound}
-use Rattle.sat_solver.proofs.Growing.{AreReasons-more_clauses, AreReasons-push, AreCalled-more_clauses, AreCalled-unit, IsCovered-more_clauses, IsCovered-more_roots}
+use Rattle.sat_solver.specs.Sound.{IsSound}
+use Rattle.sat_solver.proofs.Sounding.{sound_with_done, sound_with_clause, sound_with_unit}
 
 -- ---- what stands
-
-covered_push : (clauses done : List (List ℤ)) (roots lemma clause : List ℤ) → ((c : List ℤ) → Contains done c → IsCovered clauses roots c) → IsCovered clauses roots lemma → Contains (done ++ lemma ∷ []) clause → IsCovered clauses roots clause
-covered_push clauses done roots lemma clause old new inside =
-    let P : List ℤ → Type 0 = λ c. IsCovered clauses roots c in
-    elim (Contains-push_cases done lemma clause inside) [
-      | inl h ↦ old clause h
-      | inr e ↦ subst P e new
-    ]
-
-roots_more : (t : TrailState) (p : Put) (l : ℤ) → IsTrail t → t.level ≡ 0 → has (lits (upto 0 t.puts)) l ≡ true → has (lits (t.puts ++ p ∷ [])) l ≡ true
-roots_more t p l trail root h =
-    let P : List Put → Type 0 = λ ps. has (lits ps) l ≡ true in
-    let whole = subst P (upto-all 0 0 t.puts t.level trail.climbs (omega arith)) h in
-    ap (λ ls. has ls l) (lits-append t.puts (p ∷ [])) ∙ has-append (lits t.puts) (p.lit ∷ []) l ∙ or_left (has (lits t.puts) l) (has (p.lit ∷ []) l) whole
 
 -- a unit clause, put at level 0
 sound_unit : (vars : ℕ) (live : List (ℕ × List ℤ)) (done : List (List ℤ)) (names : List ℕ) (b : BookState) (t : TrailState) (id : ℕ) (l : ℤ) → IsSound vars live done names b t → IsTrail t → t.level ≡ 0 → id < 2 ^ 62 → IsCalled live id (l ∷ []) → IsSound vars live (done ++ (l ∷ []) ∷ []) names b (record { vars = t.vars; puts = t.puts ++ record { lit = l; level = t.level; reason = Some (ids.Unit id) } ∷ []; level = t.level; low = t.low })
 sound_unit vars live done names b t id l s trail root small called =
     let p : Put = record { lit = l; level = t.level; reason = Some (ids.Unit id) } in
-    let whole : upto 0 (t.puts ++ p ∷ []) ≡ t.puts ++ p ∷ [] = upto-all 0 0 (t.puts ++ p ∷ []) t.level (Climbs-push 0 t.puts t.level p trail.climbs refl) (omega arith) in
-    let R : List Put → Type 0 = λ ps. (c : List ℤ) → Contains (done ++ (l ∷ []) ∷ []) c → IsCovered b.clauses (lits ps) c in
-    let here : has (lits (t.puts ++ p ∷ [])) l ≡ true = ap (λ ls. has ls l) (lits-append t.puts (p ∷ [])) ∙ has-append (lits t.puts) (l ∷ []) l ∙ or_right (has (lits t.puts) l) (has (l ∷ []) l) (has-head l []) in
-    record {
-      book_vars = s.book_vars;
-      trail_vars = s.trail_vars;
-      reasons = AreReasons-push b.clauses t.puts p s.reasons small;
-      called = AreCalled-unit live b.clauses names t.puts p id s.called refl called;
-      one_name = s.one_name;
-      small_names = s.small_names;
-      covered = subst R (sym whole) (λ c inside. covered_push b.clauses done (lits (t.puts ++ p ∷ [])) (l ∷ []) c
-          (λ old k. IsCovered-more_roots b.clauses (lits (upto 0 t.puts)) (lits (t.puts ++ p ∷ [])) old (λ x h. roots_more t p x trail root h) (s.covered old k))
-          (inr (inl (l, (λ x. refl), here))) inside);
-    }
+    let new : TrailState = record { vars = t.vars; puts = t.puts ++ p ∷ []; level = t.level; low = t.low } in
+    let whole : upto 0 new.puts ≡ new.puts = upto-all 0 0 new.puts t.level (Climbs-push 0 t.puts t.level p trail.climbs refl) (omega arith) in
+    let here : has (lits (upto 0 new.puts)) l ≡ true = ap (λ ps. has (lits ps) l) whole ∙ ap (λ ls. has ls l) (lits-append t.puts (p ∷ [])) ∙ has-append (lits t.puts) (l ∷ []) l ∙ or_right (has (lits t.puts) l) (has (l ∷ []) l) (has-head l []) in
+    sound_with_done vars live done names b new (l ∷ []) (sound_with_unit vars live done names b t l id s called small) (inr (inl (l, (λ x. refl), here)))
 
 -- a clause of two literals or more, at the end of the book
 sound_clause : (vars : ℕ) (live : List (ℕ × List ℤ)) (done : List (List ℤ)) (names : List ℕ) (b : BookState) (t : TrailState) (id : ℕ) (clause : List ℤ) → IsSound vars live done names b t → id < 2 ^ 62 → IsCalled live id clause → IsSound vars live (done ++ clause ∷ []) (names ++ id ∷ []) (record { vars = b.vars; clauses = b.clauses ++ clause ∷ []; seen = b.seen }) t
 sound_clause vars live done names b t id clause s small called =
-    record {
-      book_vars = s.book_vars;
-      trail_vars = s.trail_vars;
-      reasons = AreReasons-more_clauses b.clauses (clause ∷ []) [] t.puts s.reasons;
-      called = AreCalled-more_clauses live b.clauses names t.puts clause id s.one_name s.called called;
-      one_name = length_push names id ∙ ap (λ n. n + 1) s.one_name ∙ sym (length_push b.clauses clause);
-      small_names = All-push (λ name. name < 2 ^ 62) names id s.small_names small;
-      covered = λ c inside. covered_push (b.clauses ++ clause ∷ []) done (lits (upto 0 t.puts)) clause c
-          (λ old k. IsCovered-more_clauses b.clauses (clause ∷ []) (lits (upto 0 t.puts)) old (s.covered old k))
-          (inr (inr (clause, Contains-push b.clauses clause, (λ x. refl)))) inside;
-    }
+    let more : BookState = record { vars = b.vars; clauses = b.clauses ++ clause ∷ []; seen = b.seen } in
+    sound_with_done vars live done (names ++ id ∷ []) more t clause (sound_with_clause vars live done names b t clause id s called small) (inr (inr (clause, Contains-push b.clauses clause, (λ x. refl))))
 
 pub sound_held : (vars : ℕ) (live : List (ℕ × List ℤ)) (done : List (List ℤ)) (names names' : List ℕ) (b b' : BookState) (t t' : TrailState) (id : ℕ) (lemma : List ℤ) → IsSound vars live done names b t → IsTrail t → (length lemma ≡ 1 → t.level ≡ 0) → id < 2 ^ 62 → IsCalled live id lemma → Holds lemma id b t names b' t' names' → IsSound vars live (done ++ lemma ∷ []) names' b' t'
 sound_held vars live done names names' b b' t t' id lemma s trail root small called (inl h) =

@@ -1,56 +1,25 @@
 -- A search that keeps a lesson.
-use Rattle.std.proofs.Common.{◌≡◌, ℕ, ◌+◌, ◌<◌, ◌≤◌, ◌^◌, ℤ, nat_abs, Some, List, [], ◌∷◌, ◌++◌, length, take, drop, refl, sym, subst, arith}
-use Rattle.std.specs.List.{All, Contains, enumerate_from}
-use Rattle.std.proofs.lemmas.List.{take-append-drop}
+use Rattle.std.proofs.Common.{◌≡◌, ℕ, ◌+◌, ◌<◌, ◌≤◌, ◌^◌, ℤ, nat_abs, Some, List, [], ◌∷◌, ◌++◌, length, min, refl, sym, subst, arith}
+use Rattle.std.specs.List.{All, enumerate_from}
 use Rattle.std.proofs.lemmas.List.Elements.{All-weaker}
 use Rattle.cnf_base.specs.Dimacs.{IsLiteral}
 use Rattle.cnf_base.specs.Meaning.{CnfFormula, IsWithin}
 use Rattle.lrat_text.specs.declared.proof.LratStep.{LratStep}
 use Rattle.lrat_text.specs.declared.proof.LratStep.TheVariants.{Add}
 use Rattle.lrat_text.specs.Standing.{clause_at}
-use Rattle.sat_trail.specs.Trail.{Put, TrailState, lits, upto, IsTrail}
-use Rattle.sat_trail.proofs.Climbing.{upto-take, upto-upto}
+use Rattle.sat_trail.specs.Trail.{TrailState, upto, IsTrail}
 use Rattle.sat_watch.specs.Book.{BookState}
 use Rattle.sat_learn.specs.Lesson.{LessonState, IsLesson}
-use Rattle.sat_learn.specs.Reasons.{AreReasons, IsCalled, AreCalled}
+use Rattle.sat_learn.specs.Reasons.{IsCalled}
 use Rattle.sat_solver.specs.Keeping.{Holds}
 use Rattle.sat_solver.specs.Ledger.{earlier, live, IsLedger}
-use Rattle.sat_solver.specs.Sound.{IsCovered, IsSound}
+use Rattle.sat_solver.specs.Sound.{IsSound}
 use Rattle.sat_solver.specs.Teaching.{IsTaught}
-use Rattle.sat_solver.proofs.Growing.{slice_get-push, clause_at-enumerate, AreReasons-prefix, AreCalled-prefix, AreCalled-more_live}
+use Rattle.sat_solver.proofs.Growing.{slice_get-push, clause_at-enumerate}
 use Rattle.sat_solver.proofs.Holding.{sound_held}
 use Rattle.sat_solver.proofs.Lessons.{back_at, lesson_root}
+use Rattle.sat_solver.proofs.Standing.{sound_back, sound_more_live}
 use Rattle.sat_solver.proofs.Recording.{earlier-push, length-earlier, live-push, IsLedger-push}
-
-pub sound_back : (vars : ℕ) (live : List (ℕ × List ℤ)) (done : List (List ℤ)) (names : List ℕ) (b : BookState) (t : TrailState) (level : ℕ) → IsSound vars live done names b t → IsTrail t → IsSound vars live done names b (back_at level t)
-sound_back vars live done names b t level s trail =
-    let n = length (upto level t.puts) in
-    let first : upto level t.puts ≡ take n t.puts = upto-take level 0 t.puts t.level trail.climbs in
-    let whole : take n t.puts ++ drop n t.puts ≡ t.puts = take-append-drop n t.puts in
-    let R : List Put → Type 0 = λ ps. AreReasons b.clauses [] ps in
-    let C : List Put → Type 0 = λ ps. AreCalled live b.clauses names ps in
-    let V : List Put → Type 0 = λ ps. (clause : List ℤ) → Contains done clause → IsCovered b.clauses (lits ps) clause in
-    record {
-      book_vars = s.book_vars;
-      trail_vars = s.trail_vars;
-      reasons = subst R (sym first) (AreReasons-prefix b.clauses [] (take n t.puts) (drop n t.puts) (subst R (sym whole) s.reasons));
-      called = subst C (sym first) (AreCalled-prefix live b.clauses names (take n t.puts) (drop n t.puts) (subst C (sym whole) s.called));
-      one_name = s.one_name;
-      small_names = s.small_names;
-      covered = subst V (sym (upto-upto 0 level t.puts (omega arith))) s.covered;
-    }
-
-sound_more_live : (vars : ℕ) (live more : List (ℕ × List ℤ)) (done : List (List ℤ)) (names : List ℕ) (b : BookState) (t : TrailState) → IsSound vars live done names b t → IsSound vars (live ++ more) done names b t
-sound_more_live vars live more done names b t s =
-    record {
-      book_vars = s.book_vars;
-      trail_vars = s.trail_vars;
-      reasons = s.reasons;
-      called = AreCalled-more_live live more b.clauses names t.puts s.called;
-      one_name = s.one_name;
-      small_names = s.small_names;
-      covered = s.covered;
-    }
 
 -- the clause of the newest step lives under its id
 newest_called : (formula : CnfFormula) (steps : List LratStep) (id : ℕ) (clause hints : List ℤ) → id ≡ length formula.clauses + length steps + 1 → IsCalled (live formula (steps ++ Add id clause hints ∷ [])) id clause
@@ -67,7 +36,7 @@ sound_kept formula steps names names' b b' t t' lesson level id hints s trail h 
     let pairs = live formula (steps ++ step ∷ []) in
     let P : List (ℕ × List ℤ) → Type 0 = λ ps. IsSound formula.vars ps (earlier formula steps) names b (back_at level t) in
     let Q : List (List ℤ) → Type 0 = λ cs. IsSound formula.vars pairs cs names' b' t' in
-    let before = sound_back formula.vars (live formula steps) (earlier formula steps) names b t level s trail in
+    let before = sound_back formula.vars (live formula steps) (earlier formula steps) names b t level (min t.low (length (upto level t.puts))) s trail in
     let known = subst P (sym (live-push formula steps id lesson.lits hints is)) (sound_more_live formula.vars (live formula steps) ((id, lesson.lits) ∷ []) (earlier formula steps) names b (back_at level t) before) in
     subst Q (sym (earlier-push formula steps id lesson.lits hints))
     (sound_held formula.vars pairs (earlier formula steps) names names' b b' (back_at level t) t' id lesson.lits known back (lesson_root t lesson level h le) small (newest_called formula steps id lesson.lits hints is) holds)

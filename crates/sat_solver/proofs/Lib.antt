@@ -11,4 +11,5 @@ pub mod Passing
 pub mod Recording
 pub mod Satisfying
 pub mod Taking
+pub mod Sounding
 pub mod Standing

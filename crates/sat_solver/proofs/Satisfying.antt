@@ -1,53 +1,21 @@
 -- A trail that has all variables, and makes no clause of the book false, satisfies what the book and the trail stand for.
-use Rattle.std.proofs.Common.{◌≡◌, ℕ, zero, suc, ◌-◌, ◌<◌, ◌≤◌, Bool, true, false, not, ◌||◌, eqb, leb, ℤ, pos, negsuc, neg_ℤ, nat_abs, List, [], ◌∷◌, get_or, map, refl, ap, sym, ◌∙◌, subst, arith, inl, inr}
-use Rattle.std.specs.List.{list_any, IsDistinct, All, AllByRecursion, Contains}
-use Rattle.std.proofs.lemmas.Bool.{cases_Bool, cases_eq, or_cases, or_left, or_right, eq-eqb, ne_eqb, both_ways, false_from_ne_true}
+use Rattle.std.proofs.Common.{◌≡◌, ℕ, zero, suc, ◌-◌, ◌<◌, ◌≤◌, Bool, true, false, not, eqb, ℤ, pos, negsuc, neg_ℤ, nat_abs, List, [], ◌∷◌, get_or, map, refl, ap, sym, ◌∙◌, subst, arith, inl, inr}
+use Rattle.std.specs.List.{list_any, All, AllByRecursion, Contains}
+use Rattle.std.proofs.lemmas.Bool.{cases_Bool, cases_eq, or_cases, or_left, or_right, eq-eqb, ne_eqb, both_ways}
 use Rattle.std.proofs.lemmas.List.Elements.{All-contains, recursion_from_All, Contains-append_right}
-use Rattle.std.proofs.lemmas.Map.Keys.{IsDistinct-head, IsDistinct-tail}
 use Rattle.cnf_base.specs.Dimacs.{IsLiteral}
 use Rattle.cnf_base.specs.Judged.{same_lit, has, IsRefutedIn}
 use Rattle.cnf_base.specs.Meaning.{lit_true, clause_true, Satisfies}
 use Rattle.cnf_base.proofs.Literals.{same_lit-true, same_lit-itself, list_any-found, list_any-none}
 use Rattle.sat_trail.specs.Trail.{Put, TrailState, lits, upto, IsTrail}
-use Rattle.sat_trail.proofs.Valuing.{touches, touches-is, none_from}
+use Rattle.sat_trail.proofs.Consistent.{false_once, has-upto}
+use Rattle.sat_trail.proofs.Valuing.{touches, touches-is}
 use Rattle.sat_queue.specs.Order.{is_unassigned}
 use Rattle.sat_watch.specs.Book.{BookState, IsBookClause, NoneFalse}
 use Rattle.sat_solver.specs.Answer.{value_of}
 use Rattle.sat_solver.specs.Sound.{IsCovered, IsSound}
 
 -- ---- literals of a trail
-
-nat_abs-neg_ℤ : (l : ℤ) → nat_abs (neg_ℤ l) ≡ nat_abs l
-nat_abs-neg_ℤ (pos zero) = refl
-nat_abs-neg_ℤ (pos (suc n)) = refl
-nat_abs-neg_ℤ (negsuc n) = refl
-
-own_negation : (l : ℤ) → l ≡ neg_ℤ l → l ≡ pos 0
-own_negation (pos zero) h = refl
-own_negation (pos (suc n)) h = cc
-own_negation (negsuc n) h = cc
-
--- a list in which no variable stands twice has no literal both ways
-not_twice : (m : ℤ) (ms : List ℤ) (l : ℤ) → IsDistinct eqb (map nat_abs (m ∷ ms)) → nat_abs l ≡ nat_abs m → has ms l ≡ true → ⊥
-not_twice m ms l distinct same h =
-    let absent = none_from (nat_abs m) (map nat_abs ms) (IsDistinct-head eqb (nat_abs m) (map nat_abs ms) distinct) in
-    let there : touches ms l ≡ true = touches-is ms l ∙ or_left (has ms l) (has ms (neg_ℤ l)) h in
-    let P : ℕ → Type 0 = λ n. list_any (eqb n) (map nat_abs ms) ≡ true in
-    both_ways (list_any (eqb (nat_abs m)) (map nat_abs ms)) absent (subst P same there)
-
-not_both : (ls : List ℤ) (l : ℤ) → IsDistinct eqb (map nat_abs ls) → (l ≡ pos 0 → ⊥) → has ls l ≡ true → has ls (neg_ℤ l) ≡ true → ⊥
-not_both [] l distinct nz h k = cc
-not_both (m ∷ ms) l distinct nz h k =
-    elim (or_cases (same_lit m l) (has ms l) h) [
-      | inl e ↦ elim (or_cases (same_lit m (neg_ℤ l)) (has ms (neg_ℤ l)) k) [
-        | inl f ↦ nz (own_negation l (sym (same_lit-true m l e) ∙ same_lit-true m (neg_ℤ l) f))
-        | inr f ↦ not_twice m ms (neg_ℤ l) distinct (nat_abs-neg_ℤ l ∙ ap nat_abs (sym (same_lit-true m l e))) f
-      ]
-      | inr e ↦ elim (or_cases (same_lit m (neg_ℤ l)) (has ms (neg_ℤ l)) k) [
-        | inl f ↦ not_twice m ms l distinct (sym (nat_abs-neg_ℤ l) ∙ ap nat_abs (sym (same_lit-true m (neg_ℤ l) f))) e
-        | inr f ↦ not_both ms l (IsDistinct-tail eqb (nat_abs m) (map nat_abs ms) distinct) nz e f
-      ]
-    ]
 
 literal_in : (vars : ℕ) (ls : List ℤ) (l : ℤ) → AllByRecursion (IsLiteral vars) ls → has ls l ≡ true → IsLiteral vars l
 literal_in vars [] l h k = cc
@@ -64,18 +32,6 @@ assigned_touched (p ∷ ps) v h =
     elim (cases_eq (nat_abs p.lit) v) [
       | inl e ↦ or_left (eqb v (nat_abs p.lit)) (list_any (eqb v) (map nat_abs (lits ps))) (eq-eqb v (nat_abs p.lit) (sym e))
       | inr e ↦ or_right (eqb v (nat_abs p.lit)) (list_any (eqb v) (map nat_abs (lits ps))) (assigned_touched ps v (rw (ne_eqb (nat_abs p.lit) v e) at h))
-    ]
-
-root_on_trail : (ps : List Put) (l : ℤ) → has (lits (upto 0 ps)) l ≡ true → has (lits ps) l ≡ true
-root_on_trail [] l h = cc
-root_on_trail (p ∷ ps) l h =
-    elim (cases_Bool (leb p.level 0)) [
-      | inl e ↦ (let k : (same_lit p.lit l || has (lits (upto 0 ps)) l) ≡ true = rw e at h in
-          elim (or_cases (same_lit p.lit l) (has (lits (upto 0 ps)) l) k) [
-            | inl f ↦ or_left (same_lit p.lit l) (has (lits ps) l) f
-            | inr f ↦ or_right (same_lit p.lit l) (has (lits ps) l) (root_on_trail ps l f)
-          ])
-      | inr e ↦ or_right (same_lit p.lit l) (has (lits ps) l) (root_on_trail ps l (rw e at h))
     ]
 
 -- ---- clauses that are true
@@ -119,7 +75,7 @@ literal_true : (vars : ℕ) (t : TrailState) (bits : List Bool) (l : ℤ) → Ar
 literal_true vars t bits (pos zero) h in_range k = refl
 literal_true vars t bits (pos (suc n)) h in_range k = h.each (suc n) (omega arith) in_range.variable ∙ k
 literal_true vars t bits (negsuc n) h in_range k =
-    let other : has (lits t.puts) (pos (suc n)) ≡ false = false_from_ne_true (has (lits t.puts) (pos (suc n))) (λ e. not_both (lits t.puts) (pos (suc n)) h.trail.distinct (λ f. cc) e k) in
+    let other : has (lits t.puts) (pos (suc n)) ≡ false = false_once t h.trail (pos (suc n)) k in
     ap not (h.each (suc n) (omega arith) in_range.variable ∙ other)
 
 variable_positive : (l : ℤ) → (l ≡ pos 0 → ⊥) → 0 < nat_abs l
@@ -150,7 +106,7 @@ covered_true : (vars : ℕ) (b : BookState) (t : TrailState) (bits : List Bool) 
 covered_true vars b t bits clause h book none_false (inl both) = both_ways_true (value_of bits) clause both.0 both.1 both.2
 covered_true vars b t bits clause h book none_false (inr (inl unit)) =
     let l = unit.0 in
-    let on_trail = root_on_trail t.puts l unit.2 in
+    let on_trail = has-upto 0 t.puts l unit.2 in
     let P : ℕ → Type 0 = λ n. All (IsLiteral n) (lits t.puts) in
     let in_range = literal_in vars (lits t.puts) l (recursion_from_All (IsLiteral vars) (lits t.puts) (subst P h.trail_vars h.trail.in_range)) on_trail in
     clause_true_at (value_of bits) clause l (unit.1 l ∙ or_left (same_lit l l) false (same_lit-itself l)) (literal_true vars t bits l h in_range on_trail)

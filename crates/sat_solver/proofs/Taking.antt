@@ -3,9 +3,9 @@ use Rattle.std.proofs.Common.{◌≡◌, ℕ, ◌+◌, ◌^◌, ◌<◌, ◌≤�
 use Rattle.std.specs.Bool.{MatchBool}
 use Rattle.std.specs.Result.{IfOk}
 use Rattle.std.specs.List.{slice_get, enumerate_from}
-use Rattle.std.proofs.lemmas.Bool.{cases_Bool, or_left, or_right, le-leb}
-use Rattle.std.proofs.lemmas.List.{take_more, length-append}
-use Rattle.std.proofs.lemmas.List.Elements.{All-push, Contains-push, Contains-push_cases, filter-append}
+use Rattle.std.proofs.lemmas.Bool.{cases_Bool, or_right, le-leb}
+use Rattle.std.proofs.lemmas.List.{take_more}
+use Rattle.std.proofs.lemmas.List.Elements.{Contains-push, filter-append}
 use Rattle.std.proofs.lemmas.Option.{slice_get_read}
 use Rattle.cnf_base.specs.Judged.{has, IsRefutedIn}
 use Rattle.cnf_base.specs.Meaning.{CnfFormula}
@@ -20,54 +20,8 @@ use Rattle.sat_watch.proofs.Spreading.{lits-append}
 use Rattle.sat_learn.specs.Reasons.{IsCalled}
 use Rattle.sat_solver.specs.Sound.{IsCovered, IsSound}
 use Rattle.sat_solver.specs.Loading.{IsLoaded, IsRefutedAt, Store, with_unit, IsTaken}
-use Rattle.sat_solver.proofs.Growing.{clause_at-enumerate, AreReasons-more_clauses, AreReasons-push, AreCalled-more_clauses, AreCalled-unit, IsCovered-more_clauses, IsCovered-more_roots}
-
--- ---- what is sound stays so
-
--- one more clause is covered
-sound_with_done : (vars : ℕ) (live : List (ℕ × List ℤ)) (done : List (List ℤ)) (names : List ℕ) (b : BookState) (t : TrailState) (clause : List ℤ) → IsSound vars live done names b t → IsCovered b.clauses (lits (upto 0 t.puts)) clause → IsSound vars live (done ++ clause ∷ []) names b t
-sound_with_done vars live done names b t clause h covered = record {
-  book_vars = h.book_vars;
-  trail_vars = h.trail_vars;
-  reasons = h.reasons;
-  called = h.called;
-  one_name = h.one_name;
-  small_names = h.small_names;
-  covered = λ c there. elim (Contains-push_cases done clause c there) [
-    | inl old ↦ h.covered c old
-    | inr same ↦ (let P : List ℤ → Type 0 = λ ls. IsCovered b.clauses (lits (upto 0 t.puts)) ls in subst P same covered)
-  ];
-}
-
--- the book has one more clause
-sound_with_clause : (vars : ℕ) (live : List (ℕ × List ℤ)) (done : List (List ℤ)) (names : List ℕ) (b : BookState) (t : TrailState) (clause : List ℤ) (name : ℕ) → IsSound vars live done names b t → IsCalled live name clause → name < 2 ^ 62 → IsSound vars live done (names ++ name ∷ []) (record b { clauses = b.clauses ++ clause ∷ [] }) t
-sound_with_clause vars live done names b t clause name h called small = record {
-  book_vars = h.book_vars;
-  trail_vars = h.trail_vars;
-  reasons = AreReasons-more_clauses b.clauses (clause ∷ []) [] t.puts h.reasons;
-  called = AreCalled-more_clauses live b.clauses names t.puts clause name h.one_name h.called called;
-  one_name = length-append names (name ∷ []) ∙ ap (λ n. n + 1) h.one_name ∙ sym (length-append b.clauses (clause ∷ []));
-  small_names = All-push (λ n. n < 2 ^ 62) names name h.small_names small;
-  covered = λ c there. IsCovered-more_clauses b.clauses (clause ∷ []) (lits (upto 0 t.puts)) c (h.covered c there);
-}
-
--- the trail has one more literal, for a unit clause
-sound_with_unit : (vars : ℕ) (live : List (ℕ × List ℤ)) (done : List (List ℤ)) (names : List ℕ) (b : BookState) (t : TrailState) (l : ℤ) (id : ℕ) → IsSound vars live done names b t → IsCalled live id (l ∷ []) → id < 2 ^ 62 → IsSound vars live done names b (record t { puts = t.puts ++ record { lit = l; level = t.level; reason = Some (ids.Unit id) } ∷ [] })
-sound_with_unit vars live done names b t l id h called small =
-    let p : Put = record { lit = l; level = t.level; reason = Some (ids.Unit id) } in
-    let roots : lits (upto 0 (t.puts ++ p ∷ [])) ≡ lits (upto 0 t.puts) ++ lits (upto 0 (p ∷ [])) =
-    ap lits (filter-append (λ (q : Put). leb q.level 0) t.puts (p ∷ [])) ∙ lits-append (upto 0 t.puts) (upto 0 (p ∷ [])) in
-    record {
-      book_vars = h.book_vars;
-      trail_vars = h.trail_vars;
-      reasons = AreReasons-push b.clauses t.puts p h.reasons small;
-      called = AreCalled-unit live b.clauses names t.puts p id h.called refl called;
-      one_name = h.one_name;
-      small_names = h.small_names;
-      covered = λ c there. IsCovered-more_roots b.clauses (lits (upto 0 t.puts)) (lits (upto 0 (t.puts ++ p ∷ []))) c
-          (λ m k. ap (λ ls. has ls m) roots ∙ has-append (lits (upto 0 t.puts)) (lits (upto 0 (p ∷ []))) m ∙ or_left (has (lits (upto 0 t.puts)) m) (has (lits (upto 0 (p ∷ []))) m) k)
-          (h.covered c there);
-    }
+use Rattle.sat_solver.proofs.Growing.{clause_at-enumerate}
+use Rattle.sat_solver.proofs.Sounding.{sound_with_done, sound_with_clause, sound_with_unit}
 
 -- ---- the clause at a place
 
