@@ -44,14 +44,15 @@ const ROWS: &[(u32, &[&[i32]], u64, Verdict)] = &[
     // a unit clause and one that it forces contradict one another
     (2, &[&[-1, 2], &[1], &[-2]], 1, Verdict::Unsat),
     (3, &[&[1], &[-1, 2], &[-2, 3], &[-3, -1]], 1, Verdict::Unsat),
-    // one lemma is enough, and it is a unit clause
+    // one lemma is enough, and it is a unit clause: with it, a model is found, or a clause is false at level 0
+    (2, &[&[1, 2], &[1, -2]], 1, Verdict::Sat),
+    (2, &[&[1, 2], &[1, -2], &[-1, 2]], 1, Verdict::Sat),
     (
         2,
         &[&[1, 2], &[1, -2], &[-1, 2], &[-1, -2]],
         1,
         Verdict::Unsat,
     ),
-    (2, &[&[1, 2], &[1, -2], &[-1, 2]], 1, Verdict::Sat),
     // variables that no clause has
     (64, &[&[64, 63], &[-64]], 1, Verdict::Sat),
 ];
