@@ -3,10 +3,10 @@
 
 The program is crates/solve_dimacs/out/solve_dimacs, as `rt ci` or `rt run` leaves it. `cadical --plain` and
 `minisat -no-pre`, both without preprocessing, run where they are on PATH; a peer that is missing is skipped. Each
-formula is a circuit of AND gates over time frames: counters, arbiters, multipliers, and random gates. Ketch's lemmas are
-its conflicts; for a satisfiable formula they are found by runs with smaller budgets, where these are short.
+formula is a circuit of AND gates over time frames: counters, timers, arbiters, multipliers, and random gates. Ketch's
+lemmas are its conflicts; for a satisfiable formula they are found by runs with smaller budgets, where these are short.
 
-    solve.py [--timeout SECONDS] [--only WORD] [--most CLAUSES] [--check] [--keep FOLDER]
+    solve.py [--timeout SECONDS] [--only WORD] [--most CLAUSES] [--folds] [--check] [--keep FOLDER]
 
 `--check` has `ketch lrat` check each proof of unsatisfiability; `--keep` leaves the formulas in a folder.
 """
@@ -29,7 +29,13 @@ TRUE = 1
 
 
 class Circuit:
-    """AND gates as clauses. A literal is a number; variable 1 is true."""
+    """AND gates as clauses. A literal is a number; variable 1 is true.
+
+    Where constants are folded, a gate that has one, or that stands already, takes no clauses. The search doesn't fold:
+    what follows of reset and of constants is then left to the solver.
+    """
+
+    folds = False
 
     def __init__(self):
         self.variables, self.clauses, self.gates = 1, [(TRUE,)], {}
@@ -45,6 +51,8 @@ class Circuit:
         return -a
 
     def both(self, a, b):
+        if not self.folds:
+            return self.gate(a, b)
         if a > b:
             a, b = b, a
         if a == -b or -TRUE in (a, b):
@@ -54,9 +62,13 @@ class Circuit:
         if a == b:
             return a
         if (a, b) not in self.gates:
-            self.gates[a, b] = out = self.input()
-            self.clauses += [(-out, a), (-out, b), (out, -a, -b)]
+            self.gates[a, b] = self.gate(a, b)
         return self.gates[a, b]
+
+    def gate(self, a, b):
+        out = self.input()
+        self.clauses += [(-out, a), (-out, b), (out, -a, -b)]
+        return out
 
     def either(self, a, b):
         return -self.both(-a, -b)
@@ -82,24 +94,48 @@ class Circuit:
     def want(self, lit):
         self.clauses.append((lit,))
 
+    def reset(self, values):
+        """A state by units."""
+        state = self.inputs(len(values))
+        for lit, value in zip(state, values):
+            self.want(lit if value else -lit)
+        return state
+
     def write(self, path):
         with open(path, "w") as file:
             file.write(f"p cnf {self.variables} {len(self.clauses)}\n")
             file.writelines(" ".join(map(str, lits)) + " 0\n" for lits in self.clauses)
 
 
+def advanced(circuit, state, carry):
+    following = []
+    for bit in state:
+        following.append(circuit.differ(bit, carry))
+        carry = circuit.both(bit, carry)
+    return following
+
+
 def counter(bits, frames, target):
     """Counts the steps at which an input is true, with another that puts it back: does it reach the target?"""
     circuit = Circuit()
-    state = [-TRUE] * bits
+    state = circuit.reset([False] * bits)
     for _ in range(frames):
         carry, back = circuit.inputs(2)
-        following = []
-        for bit in state:
-            following.append(circuit.both(-back, circuit.differ(bit, carry)))
-            carry = circuit.both(bit, carry)
-        state = following
+        state = [circuit.both(-back, bit) for bit in advanced(circuit, state, carry)]
     circuit.want(circuit.equal(state, target))
+    return circuit
+
+
+def timed(bits, frames):
+    """A counter that counts an input where a timer, which nothing stops, has two of its bits the same: can it count more?"""
+    circuit = Circuit()
+    timer, state = circuit.reset([False] * bits), circuit.reset([False] * bits)
+    allowed = 0
+    for frame in range(frames):
+        carry = circuit.both(circuit.input(), -circuit.differ(timer[0], timer[bits // 2]))
+        allowed += (frame & 1) == (frame >> bits // 2 & 1)
+        state, timer = advanced(circuit, state, carry), advanced(circuit, timer, TRUE)
+    circuit.want(circuit.equal(state, allowed + 1))
     return circuit
 
 
@@ -119,7 +155,7 @@ def arbiter_grants(circuit, pointer, requests):
 def arbiter(clients, frames, wanted):
     """A round-robin arbiter from reset: two grants at once in a frame, or grants in an order that is wanted."""
     circuit = Circuit()
-    pointer = [TRUE] + [-TRUE] * (clients - 1)
+    pointer = circuit.reset([client == 0 for client in range(clients)])
     clashes, orders = [], []
     for frame in range(frames):
         requests = circuit.inputs(clients)
@@ -211,7 +247,7 @@ def random_frames(latches, count, frames, seen):
     inputs, chosen = latches // 2, random.Random(latches * count + frames)
     gates, nexts = random_gates(count, latches, inputs, chosen)
     circuit, runs = Circuit(), Runs(4096, chosen)
-    state, shown = [-TRUE] * latches, [0] * latches
+    state, shown = circuit.reset([False] * latches), [0] * latches
     for _ in range(frames):
         state = step(gates, nexts, state + circuit.inputs(inputs), circuit)
         shown = step(gates, nexts, shown + runs.inputs(inputs), runs)
@@ -224,13 +260,16 @@ def random_frames(latches, count, frames, seen):
 
 def formulas():
     """Name, answer, and how to make it; small ones first in each family."""
-    for bits, frames in ((6, 20), (7, 40), (8, 80), (10, 300), (12, 3000)):
+    for bits, frames in ((6, 20), (7, 40), (8, 80), (9, 150), (10, 300)):
         yield f"counter {bits} bits {frames} frames", "sat", lambda b=bits, f=frames: counter(b, f, f * 3 // 4)
         yield f"counter {bits} bits {frames} frames", "unsat", lambda b=bits, f=frames: counter(b, f, f + 1)
-    for clients, frames in ((6, 12), (8, 30), (12, 60), (16, 120)):
-        yield f"arbiter {clients} clients {frames} frames", "sat", lambda c=clients, f=frames: arbiter(c, f, 3)
+    for bits, frames in ((6, 20), (6, 40), (7, 80), (8, 160)):
+        yield f"timer {bits} bits {frames} frames", "unsat", lambda b=bits, f=frames: timed(b, f)
+    for clients, frames in ((5, 10), (6, 12), (7, 16), (8, 30)):
         yield f"arbiter {clients} clients {frames} frames", "unsat", lambda c=clients, f=frames: arbiter(c, f, 0)
-    for bits in (5, 6, 7, 8):
+    for clients, frames in ((8, 30), (16, 60)):
+        yield f"arbiter {clients} clients {frames} frames", "sat", lambda c=clients, f=frames: arbiter(c, f, 3)
+    for bits in (4, 5, 6, 7):
         yield f"multiplier {bits} bits commuted", "unsat", lambda b=bits: commuted(b)
     for bits, number in ((10, 1009 * 997), (12, 4093 * 3989), (14, 16381 * 12347), (16, 65521 * 64997)):
         yield f"multiplier {bits} bits factored", "sat", lambda b=bits, n=number: factored(b, n)
@@ -290,7 +329,9 @@ def ketch(formula, proof, timeout, budget=BUDGET):
 
 def peer(words, pattern, formula, timeout):
     seconds, status, said = run(words + [formula], timeout)
-    return Outcome(seconds, status, number_in(pattern, said))
+    conflicts = number_in(pattern, said)
+    # cadical has no line for them where there are none
+    return Outcome(seconds, status, 0 if conflicts is None and status in ANSWERS else conflicts)
 
 
 PEERS = {
@@ -325,7 +366,7 @@ def ratio(own, other):
 def line(name, clauses, outcomes):
     own, others = outcomes["ketch"], [outcomes.get(name) for name in PEERS]
     every = [own] + others
-    cells = [f"{name:34} {own.answer:6} {clauses:8}"]
+    cells = [f"{name:35} {own.answer:6} {clauses:8}"]
     cells += [shown(one and one.conflicts, 9) for one in every]
     cells += [shown(one and one.rate(), 9) for one in every]
     cells += [shown(one and one.seconds, 9, 2) for one in every]
@@ -336,7 +377,7 @@ def line(name, clauses, outcomes):
 
 def head():
     names = ["ketch"] + list(PEERS)
-    cells = [f"{'formula':34} {'answer':6} {'clauses':>8}"]
+    cells = [f"{'formula':35} {'answer':6} {'clauses':>8}"]
     cells += [f"{name + text:>{width}}" for text, width in (("", 9), ("/s", 9), (" s", 9)) for name in names]
     print(" ".join(cells + [f"{'/' + name[:4]:>7}" for name in PEERS] + [f"{'hints/l':>8}"]))
     print("(conflicts, conflicts a second, seconds, Ketch's seconds by the peer's, hints a lemma)")
@@ -384,6 +425,7 @@ def words():
     parser.add_argument("--timeout", type=float, default=60)
     parser.add_argument("--only", default="", help="formulas whose name has this word")
     parser.add_argument("--most", type=int, default=600_000, help="the most clauses of a formula")
+    parser.add_argument("--folds", action="store_true", help="fold the constants of the circuits")
     parser.add_argument("--check", action="store_true")
     parser.add_argument("--keep", help="a folder for the formulas")
     return parser.parse_args()
@@ -391,6 +433,7 @@ def words():
 
 def main():
     options = words()
+    Circuit.folds = options.folds
     for program in [PROGRAM] + [KETCH] * options.check:
         if not os.path.exists(program):
             sys.exit(f"no {program}: run `rt ci` first")
@@ -405,7 +448,8 @@ def main():
             if options.only not in name:
                 continue
             circuit = make()
-            path = os.path.join(folder, f"{name} {wanted or 'unseen'}".replace(" ", "_") + ".cnf")
+            name += ", " + (wanted or "unseen")
+            path = os.path.join(folder, name.replace(",", "").replace(" ", "_") + ".cnf")
             if len(circuit.clauses) <= options.most:
                 circuit.write(path)
                 compare(name, wanted, path, len(circuit.clauses), options)
