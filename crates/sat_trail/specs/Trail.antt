@@ -38,6 +38,10 @@ value_in true_lits l = cond (has true_lits l) True (cond (has true_lits (neg_ℤ
 abbrev pub put_of : ℕ → List Put → Option Put
 put_of var puts = find (λ p. nat_eq (nat_abs p.lit) var) puts
 
+-- a put of this variable has this reason, and any other is as it was
+abbrev pub resting : ℕ → ClauseId → Put → Put
+resting var reason p = cond (nat_eq (nat_abs p.lit) var) (record { lit = p.lit; level = p.level; reason = Some reason }) p
+
 -- ---- what holds of every trail
 
 -- a decision begins the next level, and any other literal stays at the present one

@@ -30,6 +30,14 @@ fn assume(rt: &impl Abort, trail: &mut Trail, value: i32, reason: ClauseId) {
     trail.assume(lit, reason);
 }
 
+fn rest_on(rt: &impl Abort, trail: &mut Trail, var: u32, reason: ClauseId) {
+    assert!(rt; var != 0);
+    assert!(rt; var <= trail.vars());
+    let forced = trail.reason_of(var).is_some();
+    assert!(rt; forced);
+    trail.rest_on(var, reason);
+}
+
 /// A literal's value, and the level and the reason of its variable.
 fn seen(rt: &impl Abort, trail: &Trail, value: i32) -> (Value, Option<u32>, Option<ClauseId>) {
     assert!(rt; value != 0);
@@ -58,6 +66,11 @@ fn a_trail_grows_and_goes_back(rt: HostRuntime) -> Result<(), Fail> {
     assert_eq!(rt;
         seen(&rt, &trail, 3),
         (Value::True, Some(1), Some(ClauseId::Book(7)))
+    );
+    rest_on(&rt, &mut trail, 3, ClauseId::Unit(9));
+    assert_eq!(rt;
+        seen(&rt, &trail, 3),
+        (Value::True, Some(1), Some(ClauseId::Unit(9)))
     );
     assert!(rt; 1 <= trail.level());
     assert_eq!(rt; (trail.len_upto(0), trail.len_upto(1)), (1, 3));

@@ -1,7 +1,7 @@
 //! The trail.
 
-ghost use Rattle.std.specs.Prelude.{◌≡◌, ◌+◌, ◌<◌, ◌≤◌, ◌++◌, ◌∷◌, [], min, length, nat_abs, slice_index, slice_index_or, option_map, option_and_then, Some, None, IfOk, IsTrue, ◌↔◌};
-ghost use Rattle.sat_trail.specs.Trail.{lits, levels, upto, value_in, put_of, IsTrail};
+ghost use Rattle.std.specs.Prelude.{◌≡◌, ◌+◌, ◌<◌, ◌≤◌, ◌++◌, ◌∷◌, [], min, length, nat_abs, slice_index, slice_index_or, option_map, option_and_then, Some, None, IsSome, map, IfOk, IsTrue, ◌↔◌};
+ghost use Rattle.sat_trail.specs.Trail.{Put, lits, levels, upto, value_in, put_of, resting, IsTrail};
 
 use crate::cause::Cause;
 use crate::clause_id::ClauseId;
@@ -98,6 +98,18 @@ impl Trail {
         self.lits[self.count as usize] = lit;
         self.count += 1;
         set_values(&mut self.values, lit, Value::True, Value::False);
+    }
+
+    /// Gives an assigned literal that isn't a decision another reason.
+    pub fn rest_on(&mut self, var: u32, reason: ClauseId)
+        requires not_zero { 0 < var }
+        requires in_range { var ≤ self.old.vars }
+        requires forced { (p : Put) × (put_of var self.old.puts ≡ Some p) × IsSome p.reason }
+        ensures { self.new ≡ record self.old { puts = map (resting var reason) self.old.puts } }
+    {
+        let place = var as usize;
+        let level = self.causes[place].level;
+        self.causes[place] = assumed(level, reason);
     }
 
     /// Takes off every literal above this level.
