@@ -2,65 +2,28 @@
 use Rattle.std.proofs.Common.{◌≡◌, ℕ, true, false, eqb, ℤ, neg_ℤ, nat_abs, Some, List, [], ◌∷◌, ◌++◌, map, refl, ap, sym, ◌∙◌, subst, arith, inl, inr}
 use Rattle.std.specs.List.{slice_get, All}
 use Rattle.std.proofs.lemmas.List.Elements.{All-head, All-tail}
-use Rattle.std.proofs.lemmas.Bool.{cases_Bool, or_cases, or_parts, or_from, or_left, or_right, both_ways, eqb-false, false_from_ne_true}
+use Rattle.std.proofs.lemmas.Bool.{cases_Bool, or_cases, or_parts, or_right, both_ways, eqb-false}
 use Rattle.std.proofs.lemmas.Map.Keys.{IsDistinct-head}
-use Rattle.cnf_base.specs.declared.judged.Judged.{Judged}
-use Rattle.cnf_base.specs.declared.judged.Judged.TheVariants.{Passed, Ended, Forces, Open}
-use Rattle.cnf_base.specs.Judged.{same_lit, has, IsOpenIn, IsUnitIn, judge}
-use Rattle.cnf_base.proofs.Literals.{same_lit-true, same_lit-apart, neg_ℤ-neg_ℤ, has-head, has-append}
-use Rattle.cnf_base.proofs.Judging.{passed_says, ended_says, forces_says, open_says}
+use Rattle.cnf_base.specs.Judged.{same_lit, has, IsOpenIn, IsRefutedIn, IsUnitIn}
+use Rattle.cnf_base.proofs.Literals.{same_lit-true, same_lit-apart, has-head, has-append}
 use Rattle.sat_trail.specs.declared.truth.Value.TheVariants.{Unset}
 use Rattle.sat_trail.specs.Trail.{Put, lits, value_in}
 use Rattle.sat_watch.specs.Book.{IsBookClause}
-use Rattle.sat_watch.specs.Kept.{IsCalm}
-use Rattle.sat_watch.specs.Scanning.{HasTwoFree, Rests, RestsAt}
+use Rattle.sat_watch.specs.Scanning.{Rests, RestsAt}
 use Rattle.sat_watch.proofs.Spreading.{lits-append}
-
--- ---- from a judgement
-
-two_free_from : (assumed clause : List ℤ) → judge assumed clause ≡ Open → HasTwoFree assumed clause
-two_free_from assumed clause h =
-    let o = open_says assumed clause h in
-    record {
-      first = o.first;
-      second = o.second;
-      first_in = o.first_in;
-      second_in = o.second_in;
-      different = o.different;
-      first_free = o.first_open.1;
-      second_free = o.second_open.1;
-    }
-
-pub Rests-passed : (true_lits looked_at clause : List ℤ) → judge true_lits clause ≡ Passed → Rests true_lits looked_at clause
-Rests-passed true_lits looked_at clause h = inl (passed_says true_lits clause h)
-
-pub Rests-open : (true_lits clause : List ℤ) → judge true_lits clause ≡ Open → Rests true_lits true_lits clause
-Rests-open true_lits clause h = inr (two_free_from true_lits clause h)
+use Rattle.sat_watch.proofs.Weighing.{in_first, in_last}
 
 -- a clause that was unit passes with its literal
 pub Rests-forced : (true_lits looked_at clause : List ℤ) (l : ℤ) → IsUnitIn true_lits clause l → Rests (true_lits ++ l ∷ []) looked_at clause
-Rests-forced true_lits looked_at clause l h =
-    inl (l, h.inside, has-append true_lits (l ∷ []) l ∙ or_right (has true_lits l) (has (l ∷ []) l) (has-head l []))
+Rests-forced true_lits looked_at clause l h = inl (l, h.inside, in_last true_lits l)
 
-pub Rests-calm : (true_lits clause : List ℤ) → IsCalm true_lits clause → Rests true_lits true_lits clause
-Rests-calm true_lits clause calm = by_judged (judge true_lits clause) refl
-  where
-    by_judged : (j : Judged) → judge true_lits clause ≡ j → Rests true_lits true_lits clause
-    by_judged Passed h = Rests-passed true_lits true_lits clause h
-    by_judged Ended h = absurd (calm.not_false (ended_says true_lits clause h))
-    by_judged (Forces l) h = absurd (calm.not_unit l (forces_says true_lits clause l h))
-    by_judged Open h = Rests-open true_lits clause h
+-- ---- more literals are true, fewer were looked at
 
--- ---- more literals are true, fewer were looked at, one more is looked at
-
-has_left : (a b : List ℤ) (l : ℤ) → has a l ≡ true → has (a ++ b) l ≡ true
-has_left a b l h = has-append a b l ∙ or_left (has a l) (has b l) h
-
-has_not_left : (a b : List ℤ) (l : ℤ) → has (a ++ b) l ≡ false → has a l ≡ false
+pub has_not_left : (a b : List ℤ) (l : ℤ) → has (a ++ b) l ≡ false → has a l ≡ false
 has_not_left a b l h = (or_parts (has a l) (has b l) (sym (has-append a b l) ∙ h)).0
 
 pub Rests-more : (true_lits more looked_at clause : List ℤ) → Rests true_lits looked_at clause → Rests (true_lits ++ more) looked_at clause
-Rests-more true_lits more looked_at clause (inl p) = inl (p.0, p.1, has_left true_lits more p.0 p.2)
+Rests-more true_lits more looked_at clause (inl p) = inl (p.0, p.1, in_first true_lits more p.0 p.2)
 Rests-more true_lits more looked_at clause (inr t) = inr t
 
 pub Rests-fewer : (true_lits looked_at more clause : List ℤ) → Rests true_lits (looked_at ++ more) clause → Rests true_lits looked_at clause
@@ -76,30 +39,12 @@ Rests-fewer true_lits looked_at more clause (inr t) =
       second_free = has_not_left looked_at more (neg_ℤ t.second) t.second_free;
     })
 
-still_free : (looked_at clause : List ℤ) (l x : ℤ) → has clause (neg_ℤ l) ≡ false → has clause x ≡ true → has looked_at (neg_ℤ x) ≡ false → has (looked_at ++ l ∷ []) (neg_ℤ x) ≡ false
-still_free looked_at clause l x lacks there free =
-    has-append looked_at (l ∷ []) (neg_ℤ x)
-    ∙ or_from (has looked_at (neg_ℤ x)) (has (l ∷ []) (neg_ℤ x)) free
-    (or_from (same_lit l (neg_ℤ x)) false (false_from_ne_true (same_lit l (neg_ℤ x)) (λ e.
-    let P : ℤ → Type 0 = λ y. has clause y ≡ true in
-    let same : x ≡ neg_ℤ l = sym (neg_ℤ-neg_ℤ x) ∙ ap neg_ℤ (sym (same_lit-true l (neg_ℤ x) e)) in
-    both_ways (has clause (neg_ℤ l)) lacks (subst P same there))) refl)
-
--- a literal whose negation the clause lacks changes nothing for it
-pub Rests-other : (true_lits looked_at clause : List ℤ) (l : ℤ) → has clause (neg_ℤ l) ≡ false → Rests true_lits looked_at clause → Rests true_lits (looked_at ++ l ∷ []) clause
-Rests-other true_lits looked_at clause l lacks (inl p) = inl p
-Rests-other true_lits looked_at clause l lacks (inr t) =
-    inr (record {
-      first = t.first;
-      second = t.second;
-      first_in = t.first_in;
-      second_in = t.second_in;
-      different = t.different;
-      first_free = still_free looked_at clause l t.first lacks t.first_in t.first_free;
-      second_free = still_free looked_at clause l t.second lacks t.second_in t.second_free;
-    })
-
 -- ---- all were looked at
+
+-- no literal makes the clause false or unit
+pub record IsCalm (true_lits clause : List ℤ) : Type 0 where
+  pub not_false : ¬ IsRefutedIn true_lits clause
+  pub not_unit : (l : ℤ) → ¬ IsUnitIn true_lits clause l
 
 pub calm_from_rests : (true_lits clause : List ℤ) → Rests true_lits true_lits clause → IsCalm true_lits clause
 calm_from_rests true_lits clause (inl p) =

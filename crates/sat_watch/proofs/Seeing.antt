@@ -1,17 +1,19 @@
 -- What was seen, and what is calm for it.
-use Rattle.std.proofs.Common.{◌≡◌, ℕ, zero, suc, ◌+◌, ◌-◌, ◌<◌, ◌≤◌, Bool, true, leb, None, ℤ, List, [], ◌∷◌, ◌++◌, length, get_or, set, take, drop, refl, ap, sym, ◌∙◌, subst, arith, inl, inr}
-use Rattle.std.specs.List.{All}
-use Rattle.std.proofs.lemmas.Bool.{le-leb, lt-leb}
-use Rattle.std.proofs.lemmas.List.{append_assoc, append-nil, length-map, length-take, take-map, take-take, take_all, take_more, take_more_set, take-append-le, take-append-drop, drop-append-le, get_or-map}
-use Rattle.std.proofs.lemmas.List.Elements.{All-take, All-weaker, filter-append}
+use Rattle.std.proofs.Common.{◌≡◌, ℕ, zero, suc, ◌+◌, ◌-◌, ◌*◌, ◌^◌, ◌<◌, ◌≤◌, Bool, true, leb, Option, None, ℤ, List, [], ◌∷◌, ◌++◌, length, get_or, set, take, drop, refl, ap, sym, ◌∙◌, subst, arith, inl, inr}
+use Rattle.std.proofs.lemmas.Bool.{cases_lt, le-leb, lt-leb}
+use Rattle.std.proofs.lemmas.List.{append_assoc, append-nil, length-map, length-take, get_or-take, take-map, take-take, take_all, take_more, take_more_set, take-append-le, take-append-drop, drop-append-le, get_or-map}
+use Rattle.std.proofs.lemmas.List.Elements.{filter-append}
 use Rattle.sat_trail.specs.Trail.{Put, TrailState, lits, levels, upto, Climbs, IsTrail}
-use Rattle.sat_trail.proofs.Climbing.{Joins-near, Climbs-rises, upto-below}
+use Rattle.sat_trail.proofs.Climbing.{Joins-near, Climbs-rises, upto-below, upto-take}
+use Rattle.sat_watch.specs.declared.links.Watch.{Watch}
 use Rattle.sat_watch.specs.declared.mark.Mark.{Mark}
 use Rattle.sat_watch.specs.declared.scan.Scan.{Scan}
 use Rattle.sat_watch.specs.declared.scan.Scan.TheVariants.{Quiet}
-use Rattle.sat_watch.specs.Book.{BookState, IsBookClause, NoneFalse, NoneUnit, NoneFalseBelow, NoneUnitBelow, marks, Follow, Spreads, ScanIs}
-use Rattle.sat_watch.specs.Kept.{IsCalm, mark_lits, mark_levels, IsRising, BeginsLevel, IsStart, CalmBefore, IsKept}
-use Rattle.sat_watch.proofs.Resting.{calm_nothing}
+use Rattle.sat_watch.specs.Book.{BookState, marks, Follow, Spreads}
+use Rattle.sat_watch.specs.Kept.{first_lit, second_lit, IsWatched, Each, EachBefore, mark_lits, mark_levels, IsRising, BeginsLevel, IsStart, IsKept}
+use Rattle.sat_watch.specs.Links.{AreLinked, watch_lits}
+use Rattle.sat_watch.specs.Watching.{AreKnown, AreWatchedBelow}
+use Rattle.sat_watch.proofs.Watched.{watched_nothing}
 
 pub mark_lits-marks : (ps : List Put) → mark_lits (marks ps) ≡ lits ps
 mark_lits-marks [] = refl
@@ -70,18 +72,16 @@ prefix_same seen ps low start le agrees =
     ∙ take-map (λ (m : Mark). m.lit) start (marks ps)
     ∙ ap mark_lits (sym (take-take start low (marks ps) le) ∙ ap (take start) agrees ∙ take-take start low seen le)
 
-all_nothing : (vars : ℕ) (clauses : List (List ℤ)) → All (IsBookClause vars) clauses → All (IsCalm []) clauses
-all_nothing vars clauses h = All-weaker (IsBookClause vars) (IsCalm []) (λ c k. calm_nothing vars c k) clauses h
-
-pub start_is_calm : (vars : ℕ) (clauses : List (List ℤ)) (looked : ℕ) (seen : List Mark) (calm : Bool) (ps : List Put) (low start : ℕ) → All (IsBookClause vars) clauses → CalmBefore (take looked clauses) seen → (calm ≡ true → All (IsCalm (mark_lits seen)) (take looked clauses)) → take low (marks ps) ≡ take low seen → start ≤ low → IsStart seen calm start → All (IsCalm (take start (lits ps))) (take looked clauses)
-start_is_calm vars clauses looked seen calm ps low start book before whole agrees le (inl none) =
-    let P : ℕ → Type 0 = λ n. All (IsCalm (take n (lits ps))) (take looked clauses) in
-    subst P (sym none) (All-take (IsCalm []) looked clauses (all_nothing vars clauses book))
-start_is_calm vars clauses looked seen calm ps low start book before whole agrees le (inr (inl begins)) =
-    let P : List ℤ → Type 0 = λ ls. All (IsCalm ls) (take looked clauses) in
+-- under the literals before a start the clauses are watched
+start_is_watched : (clauses : List (List ℤ)) (watched : List ℤ) (looked : ℕ) (seen : List Mark) (calm : Bool) (ps : List Put) (low start : ℕ) → ((place : ℕ) → place < length seen → BeginsLevel seen place → EachBefore looked (IsWatched (take place (mark_lits seen)) (take place (mark_lits seen))) clauses watched) → (calm ≡ true → EachBefore looked (IsWatched (mark_lits seen) (mark_lits seen)) clauses watched) → take low (marks ps) ≡ take low seen → start ≤ low → IsStart seen calm start → EachBefore looked (IsWatched (take start (lits ps)) (take start (lits ps))) clauses watched
+start_is_watched clauses watched looked seen calm ps low start before whole agrees le (inl none) =
+    let P : ℕ → Type 0 = λ n. EachBefore looked (IsWatched (take n (lits ps)) (take n (lits ps))) clauses watched in
+    subst P (sym none) (λ place clause lt is. watched_nothing [] clause (first_lit watched place) (second_lit watched place))
+start_is_watched clauses watched looked seen calm ps low start before whole agrees le (inr (inl begins)) =
+    let P : List ℤ → Type 0 = λ ls. EachBefore looked (IsWatched ls ls) clauses watched in
     subst P (take-map (λ (m : Mark). m.lit) start seen ∙ sym (prefix_same seen ps low start le agrees)) (before start begins.0 begins.1)
-start_is_calm vars clauses looked seen calm ps low start book before whole agrees le (inr (inr past)) =
-    let P : List ℤ → Type 0 = λ ls. All (IsCalm ls) (take looked clauses) in
+start_is_watched clauses watched looked seen calm ps low start before whole agrees le (inr (inr past)) =
+    let P : List ℤ → Type 0 = λ ls. EachBefore looked (IsWatched ls ls) clauses watched in
     subst P (sym (prefix_same seen ps low start le agrees ∙ ap mark_lits (take_all start seen past.1))) (whole past.0)
 
 -- ---- what is seen after propagation
@@ -140,52 +140,117 @@ upto_spread clauses old new k s lt =
     ∙ ap (λ r. upto k old.puts ++ r) (follow_above clauses old.level k (lits old.puts) s.more s.follow lt)
     ∙ append-nil (upto k old.puts)
 
-calm_below : (vars : ℕ) (clauses : List (List ℤ)) (old new : TrailState) → All (IsBookClause vars) clauses → NoneFalseBelow clauses old → NoneUnitBelow clauses old → Spreads clauses old new → IsTrail new → CalmBefore clauses (marks new.puts)
-calm_below vars clauses old new book none_false none_unit s trail place lt begins = by_level (get_or (levels new.puts) place 0) refl
-  where
-    level_of : (j : ℕ) → get_or (mark_levels (marks new.puts)) j 0 ≡ get_or (levels new.puts) j 0
-    level_of j = ap (λ ns. get_or ns j 0) (mark_levels-marks new.puts)
+-- ---- levels up to a place
 
-    by_level : (n : ℕ) → get_or (levels new.puts) place 0 ≡ n → All (IsCalm (take place (mark_lits (marks new.puts)))) clauses
+upto_none : (k from : ℕ) (p : Put) (ps : List Put) (to : ℕ) → Climbs from (p ∷ ps) to → k < p.level → length (upto k (p ∷ ps)) ≡ 0
+upto_none k from p ps to h above = rw (lt-leb p.level k above) (ap length (upto-below k p.level ps to h.1 above))
+
+-- the literals up to a level are those before the first of a higher one
+upto_within : (k from : ℕ) (ps : List Put) (to j : ℕ) → Climbs from ps to → j < length (upto k ps) → get_or (levels ps) j 0 ≤ k
+upto_within k from [] to j h lt = absurd (omega arith)
+upto_within k from (p ∷ ps) to zero h lt =
+    elim (cases_lt k p.level) [
+      | inl above ↦ absurd (omega (arith, upto_none k from p ps to h above))
+      | inr within ↦ within
+    ]
+upto_within k from (p ∷ ps) to (suc j) h lt =
+    elim (cases_lt k p.level) [
+      | inl above ↦ absurd (omega (arith, upto_none k from p ps to h above))
+      | inr within ↦ (let more : length (upto k (p ∷ ps)) ≡ length (upto k ps) + 1 = rw (le-leb p.level k within) (omega arith) in upto_within k p.level ps to j h.1 (omega arith))
+    ]
+
+upto_ends : (k from : ℕ) (ps : List Put) (to : ℕ) → Climbs from ps to → length (upto k ps) < length ps → k < get_or (levels ps) (length (upto k ps)) 0
+upto_ends k from [] to h lt = absurd (omega arith)
+upto_ends k from (p ∷ ps) to h lt =
+    let P : ℕ → Type 0 = λ n. k < get_or (levels (p ∷ ps)) n 0 in
+    elim (cases_lt k p.level) [
+      | inl above ↦ subst P (sym (upto_none k from p ps to h above)) above
+      | inr within ↦ (let more : length (upto k (p ∷ ps)) ≡ suc (length (upto k ps)) = rw (le-leb p.level k within) refl in
+          subst P (sym more) (upto_ends k p.level ps to h.1 (omega arith)))
+    ]
+
+-- the literals up to a level below that of a place stand before it
+pub upto_before : (k : ℕ) (t : TrailState) (place : ℕ) → IsTrail t → place < length t.puts → k < get_or (levels t.puts) place 0 → length (upto k t.puts) ≤ place
+upto_before k t place trail lt above =
+    elim (cases_lt place (length (upto k t.puts))) [
+      | inl past ↦ (let le = upto_within k 0 t.puts t.level place trail.climbs past in absurd (omega arith))
+      | inr within ↦ within
+    ]
+
+-- ---- what a look begins with
+
+levels_agree : (seen : List Mark) (ps : List Put) (low j : ℕ) → take low (marks ps) ≡ take low seen → j < low → get_or (mark_levels seen) j 0 ≡ get_or (levels ps) j 0
+levels_agree seen ps low j agrees lt =
+    sym (get_or-take low (mark_levels seen) j 0 lt)
+    ∙ ap (λ ns. get_or ns j 0) (take-map (λ (m : Mark). m.level) low seen ∙ sym (ap mark_levels agrees) ∙ sym (take-map (λ (m : Mark). m.level) low (marks ps)) ∙ ap (take low) (mark_levels-marks ps))
+    ∙ get_or-take low (levels ps) j 0 lt
+
+pub known_at_start : (b : BookState) (heads : List (Option ℕ)) (watches : List Watch) (items : List Mark) (count looked : ℕ) (calm : Bool) (t : TrailState) (start : ℕ) → IsKept b heads watches items count looked calm → IsTrail t → take t.low (marks t.puts) ≡ take t.low b.seen → start ≤ t.low → IsStart b.seen calm start → AreKnown b.clauses heads watches t looked start
+known_at_start b heads watches items count looked calm t start h trail agrees le start_is =
+    record { linked = h.linked; pairs = h.pairs; below = below; here = here }
+  where
+    here : EachBefore looked (IsWatched (take start (lits t.puts)) (take start (lits t.puts))) b.clauses (watch_lits watches)
+    here = start_is_watched b.clauses (watch_lits watches) looked b.seen calm t.puts t.low start h.watched_before h.watched_whole agrees le start_is
+
+    below : (k : ℕ) → length (upto k t.puts) ≤ start → EachBefore looked (IsWatched (lits (upto k t.puts)) (lits (upto k t.puts))) b.clauses (watch_lits watches)
+    below k within =
+        let q = length (upto k t.puts) in
+        let P : List ℤ → Type 0 = λ ls. EachBefore looked (IsWatched ls ls) b.clauses (watch_lits watches) in
+        let cut : lits (upto k t.puts) ≡ take q (lits t.puts) = ap lits (upto-take k 0 t.puts t.level trail.climbs) ∙ sym (take-map (λ (p : Put). p.lit) q t.puts) in
+        elim (cases_lt q start) [
+          | inl lt ↦ (let low_le = trail.low_reached in
+              let room : t.low ≤ length b.seen = omega (arith, ap length agrees, length-take t.low (marks t.puts), length-marks t.puts, length-take t.low b.seen) in
+              let begins : BeginsLevel b.seen q = λ j lower. (let up = upto_within k 0 t.puts t.level j trail.climbs lower in
+              let on = upto_ends k 0 t.puts t.level trail.climbs (omega arith) in
+              omega (arith, levels_agree b.seen t.puts t.low j agrees (omega arith), levels_agree b.seen t.puts t.low q agrees (omega arith))) in
+              subst P (take-map (λ (m : Mark). m.lit) q b.seen ∙ sym (cut ∙ prefix_same b.seen t.puts t.low q (omega arith) agrees)) (h.watched_before q (omega arith) begins))
+          | inr ge ↦ (let same : q ≡ start = omega arith in
+              subst P (sym (cut ∙ ap (λ n. take n (lits t.puts)) same)) here)
+        ]
+
+-- ---- what a look leaves
+
+watched_below : (clauses : List (List ℤ)) (heads : List (Option ℕ)) (watches : List Watch) (t : TrailState) → AreWatchedBelow clauses heads watches t → IsTrail t → (place : ℕ) → place < length (marks t.puts) → BeginsLevel (marks t.puts) place → EachBefore (length clauses) (IsWatched (take place (mark_lits (marks t.puts))) (take place (mark_lits (marks t.puts)))) clauses (watch_lits watches)
+watched_below clauses heads watches t h trail place lt begins = by_level (get_or (levels t.puts) place 0) refl
+  where
+    level_of : (j : ℕ) → get_or (mark_levels (marks t.puts)) j 0 ≡ get_or (levels t.puts) j 0
+    level_of j = ap (λ ns. get_or ns j 0) (mark_levels-marks t.puts)
+
+    by_level : (n : ℕ) → get_or (levels t.puts) place 0 ≡ n → EachBefore (length clauses) (IsWatched (take place (mark_lits (marks t.puts))) (take place (mark_lits (marks t.puts)))) clauses (watch_lits watches)
     by_level zero is = at_front place (λ j below. begins j below) refl
       where
-        at_front : (q : ℕ) → ((j : ℕ) → j < q → get_or (mark_levels (marks new.puts)) j 0 < get_or (mark_levels (marks new.puts)) place 0) → q ≡ place → All (IsCalm (take q (mark_lits (marks new.puts)))) clauses
-        at_front zero b e = all_nothing vars clauses book
+        at_front : (q : ℕ) → ((j : ℕ) → j < q → get_or (mark_levels (marks t.puts)) j 0 < get_or (mark_levels (marks t.puts)) place 0) → q ≡ place → EachBefore (length clauses) (IsWatched (take q (mark_lits (marks t.puts))) (take q (mark_lits (marks t.puts)))) clauses (watch_lits watches)
+        at_front zero b e = λ i c within is. watched_nothing [] c (first_lit (watch_lits watches) i) (second_lit (watch_lits watches) i)
         at_front (suc q) b e = (let first = b 0 (omega arith) in absurd (omega (arith, level_of place)))
     by_level (suc k) is =
-        let room : place < length new.puts = omega (arith, length-marks new.puts) in
-        let top = level_le 0 new.puts new.level place trail.climbs room in
-        let below : k < old.level = omega (arith, s.level) in
-        let before : (j : ℕ) → j < place → get_or (levels new.puts) j 0 < suc k = λ j lower. (let b = begins j lower in omega (arith, level_of j, level_of place)) in
-        let cut : upto k new.puts ≡ take place new.puts = begins_upto k place 0 new.puts new.level trail.climbs room is before in
-        let same : take place (mark_lits (marks new.puts)) ≡ lits (upto k old.puts) =
-        ap (take place) (mark_lits-marks new.puts) ∙ take-map (λ (p : Put). p.lit) place new.puts ∙ ap lits (sym cut ∙ upto_spread clauses old new k s below) in
-        let P : List ℤ → Type 0 = λ ls. All (IsCalm ls) clauses in
-        let calm : All (IsCalm (lits (upto k old.puts))) clauses = λ i d within. record { not_false = none_false k below i d within; not_unit = none_unit k below i d within } in
-        subst P (sym same) calm
+        let room : place < length t.puts = omega (arith, length-marks t.puts) in
+        let top = level_le 0 t.puts t.level place trail.climbs room in
+        let before : (j : ℕ) → j < place → get_or (levels t.puts) j 0 < suc k = λ j lower. (let b = begins j lower in omega (arith, level_of j, level_of place)) in
+        let cut : upto k t.puts ≡ take place t.puts = begins_upto k place 0 t.puts t.level trail.climbs room is before in
+        let same : take place (mark_lits (marks t.puts)) ≡ lits (upto k t.puts) =
+        ap (take place) (mark_lits-marks t.puts) ∙ take-map (λ (p : Put). p.lit) place t.puts ∙ ap lits (sym cut) in
+        let P : List ℤ → Type 0 = λ ls. EachBefore (length clauses) (IsWatched ls ls) clauses (watch_lits watches) in
+        subst P (sym same) (λ i c within there. h.below k (omega arith) i c there)
 
-calm_from_scan : (clauses : List (List ℤ)) (true_lits : List ℤ) (scan : Scan) → ScanIs clauses true_lits scan → scan ≡ Quiet → All (IsCalm true_lits) clauses
-calm_from_scan clauses true_lits scan h is =
-    let P : Scan → Type 0 = λ x. ScanIs clauses true_lits x in
-    let quiet : NoneFalse clauses true_lits × NoneUnit clauses true_lits = subst P is h in
-    λ i d within. record { not_false = quiet.0 i d within; not_unit = quiet.1 i d within }
-
-pub IsKept-after : (b : BookState) (lists : List (List ℕ)) (items items' : List Mark) (count looked : ℕ) (calm calm' : Bool) (old new : TrailState) (scan : Scan) → IsKept b lists items count looked calm → old.vars ≡ b.vars → NoneFalseBelow b.clauses old → NoneUnitBelow b.clauses old → Spreads b.clauses old new → IsTrail new → length new.puts ≤ new.vars → length items' ≡ length items → (calm' ≡ true → scan ≡ Quiet) → ScanIs b.clauses (lits new.puts) scan → IsKept (record { vars = b.vars; clauses = b.clauses; seen = marks new.puts }) lists items' (length new.puts) (length b.clauses) calm'
-IsKept-after b lists items items' count looked calm calm' old new scan h same none_false none_unit s trail few len quiet answer =
-    let all : take (length b.clauses) b.clauses ≡ b.clauses = take_all (length b.clauses) b.clauses (omega arith) in
-    let P : List (List ℤ) → Type 0 = λ cs. CalmBefore cs (marks new.puts) in
-    let Q : List (List ℤ) → Type 0 = λ cs. All (IsCalm (mark_lits (marks new.puts))) cs in
-    let R : List ℤ → Type 0 = λ ls. All (IsCalm ls) b.clauses in
+pub IsKept-after : (b : BookState) (heads heads' : List (Option ℕ)) (watches watches' : List Watch) (items items' : List Mark) (count looked : ℕ) (calm calm' : Bool) (new : TrailState) (scan : Scan) → IsKept b heads watches items count looked calm → new.vars ≡ b.vars → IsTrail new → length new.puts ≤ new.vars → length items' ≡ length items → length heads' ≡ length heads → length watches' ≡ length watches → AreWatchedBelow b.clauses heads' watches' new → (scan ≡ Quiet → Each (IsWatched (lits new.puts) (lits new.puts)) b.clauses (watch_lits watches')) → (calm' ≡ true → scan ≡ Quiet) → IsKept (record { vars = b.vars; clauses = b.clauses; seen = marks new.puts }) heads' watches' items' (length new.puts) (length b.clauses) calm'
+IsKept-after b heads heads' watches watches' items items' count looked calm calm' new scan h same trail few len heads_len watches_len below whole quiet =
+    let L : List Watch → Type 0 = λ ws. AreLinked heads' ws in
+    let W : List ℤ → Type 0 = λ ls. EachBefore (length b.clauses) (IsWatched ls ls) b.clauses (watch_lits watches') in
     record {
       few_vars = h.few_vars;
       clauses = h.clauses;
-      lists_room = h.lists_room;
-      listed = h.listed;
+      sizes = record {
+        heads_room = heads_len ∙ h.sizes.heads_room;
+        two_each = watches_len ∙ h.sizes.two_each;
+        few = (let small = h.sizes.few in let F : ℕ → Type 0 = λ n. n + 1 < 2 ^ 32 in subst F (sym watches_len) small);
+      };
       seen_room = len ∙ h.seen_room;
-      number = omega (arith, s.vars);
+      number = omega arith;
       some_looked = omega arith;
       rising = λ i j le lt. (let N : List ℕ → Type 0 = λ ns. get_or ns i 0 ≤ get_or ns j 0 in
           subst N (sym (mark_levels-marks new.puts)) (levels_rise 0 new.puts new.level i j trail.climbs le (omega (arith, length-marks new.puts))));
-      calm_before = subst P (sym all) (calm_below b.vars b.clauses old new h.clauses none_false none_unit s trail);
-      calm_whole = λ yes. subst Q (sym all) (subst R (sym (mark_lits-marks new.puts)) (calm_from_scan b.clauses (lits new.puts) scan answer (quiet yes)));
+      linked = subst L (sym (take_all (2 * length b.clauses) watches' (omega (arith, watches_len, h.sizes.two_each)))) below.linked;
+      pairs = λ i c within there. below.pairs i c there;
+      watched_before = watched_below b.clauses heads' watches' new below trail;
+      watched_whole = λ yes. subst W (sym (mark_lits-marks new.puts)) (λ i c within there. whole (quiet yes) i c there);
     }

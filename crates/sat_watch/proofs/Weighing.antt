@@ -12,7 +12,7 @@ use Rattle.sat_trail.proofs.Valuing.{unset_says}
 use Rattle.sat_watch.specs.Scanning.{widened, HasTwoFree, Weighs}
 
 -- a literal of the clause so far, or the one that comes
-in_push : (seen : List ℤ) (lit m : ℤ) → has (seen ++ lit ∷ []) m ≡ true → (has seen m ≡ true) ⊎ (lit ≡ m)
+pub in_push : (seen : List ℤ) (lit m : ℤ) → has (seen ++ lit ∷ []) m ≡ true → (has seen m ≡ true) ⊎ (lit ≡ m)
 in_push seen lit m h =
     elim (or_cases (has seen m) (has (lit ∷ []) m) (sym (has-append seen (lit ∷ []) m) ∙ h)) [
       | inl e ↦ inl e
@@ -101,7 +101,7 @@ open_push true_lits seen lit Open free h = HasTwoFree-more true_lits seen (lit �
 
 -- ---- by the literal's value
 
-value_false : (true_lits : List ℤ) (lit : ℤ) → value_in true_lits lit ≡ False → IsFalseIn true_lits lit
+pub value_false : (true_lits : List ℤ) (lit : ℤ) → value_in true_lits lit ≡ False → IsFalseIn true_lits lit
 value_false true_lits lit h =
     elim (cases_Bool (has true_lits lit)) [
       | inl e ↦ (let k : True ≡ False = rw e at h in cc)
@@ -111,7 +111,7 @@ value_false true_lits lit h =
       ]
     ]
 
-value_true : (true_lits : List ℤ) (lit : ℤ) → value_in true_lits lit ≡ True → has true_lits lit ≡ true
+pub value_true : (true_lits : List ℤ) (lit : ℤ) → value_in true_lits lit ≡ True → has true_lits lit ≡ true
 value_true true_lits lit h =
     elim (cases_Bool (has true_lits lit)) [
       | inl e ↦ e
@@ -122,7 +122,7 @@ value_true true_lits lit h =
     ]
 
 -- the literals up to a place and the one there
-more_seen : (clause : List ℤ) (i : ℕ) (lit : ℤ) → i < length clause → lit ≡ get_or clause i lit → take (i + 1) clause ≡ take i clause ++ lit ∷ []
+pub more_seen : (clause : List ℤ) (i : ℕ) (lit : ℤ) → i < length clause → lit ≡ get_or clause i lit → take (i + 1) clause ≡ take i clause ++ lit ∷ []
 more_seen clause i lit lt is = take_more clause i lit lt ∙ ap (λ l. take i clause ++ l ∷ []) (sym is)
 
 pub weigh_false : (true_lits clause : List ℤ) (i : ℕ) (lit : ℤ) (so_far : Judged) → i < length clause → lit ≡ get_or clause i lit → value_in true_lits lit ≡ False → Weighs true_lits (take i clause) so_far → IsNotPassed so_far → Weighs true_lits (take (i + 1) clause) so_far

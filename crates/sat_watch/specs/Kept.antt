@@ -1,22 +1,48 @@
--- How a book is kept: beside the clauses, for each literal the places of the clauses that have its negation.
-use Rattle.std.specs.Prelude.{◌≡◌, ℕ, ◌+◌, ◌*◌, ◌<◌, ◌≤◌, IsTrue, Bool, ℤ, pos, negsuc, neg_ℤ, Some, List, [], length, map, take, slice_get, slice_index, slice_index_or, All, Contains, ◌⊎◌}
-use Rattle.cnf_base.specs.Judged.{has, IsRefutedIn, IsUnitIn}
+-- How a book is kept: beside the clauses two watched literals of each, in linked lists, and what was seen of a trail.
+use Rattle.std.specs.Prelude.{◌≡◌, ◌≢◌, ℕ, ◌+◌, ◌*◌, ◌^◌, ◌<◌, ◌≤◌, IsTrue, IsFalse, Bool, ℤ, pos, neg_ℤ, Option, Some, List, length, map, take, slice_get, slice_index, slice_index_or, All, ◌⊎◌}
+use Rattle.cnf_base.specs.Judged.{has, IsPassedIn}
+use Rattle.sat_watch.specs.declared.links.Watch.{Watch}
 use Rattle.sat_watch.specs.declared.mark.Mark.{Mark}
 use Rattle.sat_watch.specs.Book.{BookState, IsBookClause}
+use Rattle.sat_watch.specs.Links.{watch_lits, AreLinked}
 
--- the place of a literal's list
-abbrev pub slot : ℤ → ℕ
-slot (pos n) = 2 * n
-slot (negsuc n) = 2 * (n + 1) + 1
+-- ---- two literals of each clause
 
--- each clause stands in the list of the negation of each of its literals
-abbrev pub AreListed : List (List ℤ) → List (List ℕ) → Type 0
-AreListed clauses lists = (place : ℕ) (clause : List ℤ) → slice_get clauses place ≡ Some clause → (l : ℤ) → IsTrue (has clause (neg_ℤ l)) → Contains (slice_index_or lists (slot l) []) place
+-- two different literals of the clause
+pub record IsPair (clause : List ℤ) (first second : ℤ) : Type 0 where
+  pub first_in : IsTrue (has clause first)
+  pub second_in : IsTrue (has clause second)
+  pub differ : first ≢ second
 
--- no literal makes the clause false or unit
-pub record IsCalm (true_lits clause : List ℤ) : Type 0 where
-  pub not_false : ¬ IsRefutedIn true_lits clause
-  pub not_unit : (l : ℤ) → ¬ IsUnitIn true_lits clause l
+-- the clause has a true literal, or these falsify neither of the two
+abbrev pub IsWatched : List ℤ → List ℤ → List ℤ → ℤ → ℤ → Type 0
+IsWatched true_lits looked_at clause first second = IsPassedIn true_lits clause ⊎ (IsFalse (has looked_at (neg_ℤ first)) × IsFalse (has looked_at (neg_ℤ second)))
+
+-- the two watched literals of the clause at a place, in the list of all
+abbrev pub first_lit : List ℤ → ℕ → ℤ
+first_lit watched place = slice_index_or watched (2 * place) (pos 0)
+
+abbrev pub second_lit : List ℤ → ℕ → ℤ
+second_lit watched place = slice_index_or watched (2 * place + 1) (pos 0)
+
+-- each clause and its two watched literals
+abbrev pub Each : (List ℤ → ℤ → ℤ → Type 0) → List (List ℤ) → List ℤ → Type 0
+Each R clauses watched = (place : ℕ) (clause : List ℤ) → slice_get clauses place ≡ Some clause → R clause (first_lit watched place) (second_lit watched place)
+
+-- the same of those before a place, and from a place on
+abbrev pub EachBefore : ℕ → (List ℤ → ℤ → ℤ → Type 0) → List (List ℤ) → List ℤ → Type 0
+EachBefore end R clauses watched = (place : ℕ) (clause : List ℤ) → place < end → slice_get clauses place ≡ Some clause → R clause (first_lit watched place) (second_lit watched place)
+
+abbrev pub EachFrom : ℕ → (List ℤ → ℤ → ℤ → Type 0) → List (List ℤ) → List ℤ → Type 0
+EachFrom from R clauses watched = (place : ℕ) (clause : List ℤ) → from ≤ place → slice_get clauses place ≡ Some clause → R clause (first_lit watched place) (second_lit watched place)
+
+-- two watches for each clause, few enough for their numbers, and a list for each literal
+pub record AreSized (vars : ℕ) (clauses : List (List ℤ)) (heads : List (Option ℕ)) (watches : List Watch) : Type 0 where
+  pub heads_room : length heads ≡ 2 * vars + 2
+  pub two_each : length watches ≡ 2 * length clauses
+  pub few : length watches + 1 < 2 ^ 32
+
+-- ---- what was seen of a trail
 
 abbrev pub mark_lits : List Mark → List ℤ
 mark_lits seen = map (λ m. m.lit) seen
@@ -36,19 +62,19 @@ IsRising seen = (i j : ℕ) → i ≤ j → j < length seen → slice_index (mar
 abbrev pub IsStart : List Mark → Bool → ℕ → Type 0
 IsStart seen calm start = (start ≡ 0) ⊎ (((start < length seen) × BeginsLevel seen start) ⊎ (IsTrue calm × (length seen ≤ start)))
 
--- the clauses are calm where the literals before a level are true, for each level that was seen
-abbrev pub CalmBefore : List (List ℤ) → List Mark → Type 0
-CalmBefore clauses seen = (place : ℕ) → place < length seen → BeginsLevel seen place → All (IsCalm (take place (mark_lits seen))) clauses
-
-pub record IsKept (b : BookState) (lists : List (List ℕ)) (all_seen : List Mark) (count looked : ℕ) (calm : Bool) : Type 0 where
+pub record IsKept (b : BookState) (heads : List (Option ℕ)) (watches : List Watch) (all_seen : List Mark) (count looked : ℕ) (calm : Bool) : Type 0 where
   pub few_vars : b.vars ≤ 4000000
   pub clauses : All (IsBookClause b.vars) b.clauses
-  pub lists_room : length lists ≡ 2 * b.vars + 2
-  pub listed : AreListed b.clauses lists
+  pub sizes : AreSized b.vars b.clauses heads watches
   pub seen_room : length all_seen ≡ b.vars
   pub number : count ≤ b.vars
   pub some_looked : looked ≤ length b.clauses
   pub rising : IsRising b.seen
-  pub calm_before : CalmBefore (take looked b.clauses) b.seen
-  -- after Quiet the clauses that were looked at are calm under all that was seen
-  pub calm_whole : IsTrue calm → All (IsCalm (mark_lits b.seen)) (take looked b.clauses)
+  -- the clauses that were looked at are linked and watched; the watches of the others wait to be chosen
+  pub linked : AreLinked heads (take (2 * looked) watches)
+  pub pairs : EachBefore looked IsPair b.clauses (watch_lits watches)
+  -- where the literals before a level are true, for each level that was seen
+  pub watched_before : (place : ℕ) → place < length b.seen → BeginsLevel b.seen place
+      → EachBefore looked (IsWatched (take place (mark_lits b.seen)) (take place (mark_lits b.seen))) b.clauses (watch_lits watches)
+  -- and after Quiet under all that was seen
+  pub watched_whole : IsTrue calm → EachBefore looked (IsWatched (mark_lits b.seen) (mark_lits b.seen)) b.clauses (watch_lits watches)

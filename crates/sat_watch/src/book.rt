@@ -4,7 +4,8 @@ ghost use Rattle.std.specs.Prelude.{◌≡◌, ℤ, List, ◌≤◌, ◌++◌, �
 ghost use Rattle.sat_trail.specs.Trail.{lits};
 ghost use Rattle.sat_watch.specs.Book.{IsBookClause, IsClauseOf, NoneFalseBelow, NoneUnitBelow, marks, Spreads, ScanIs};
 
-use crate::listing::{append, empty_lists, place_of};
+use crate::append::append;
+use crate::links::{Link, Watch};
 use crate::mark::Mark;
 use crate::scan::{Scan, is_quiet};
 use crate::seen::{first_marks, note, start_of};
@@ -23,7 +24,8 @@ pub struct ClauseBook {
     vars: u32,
     alloc: Global,
     clauses: Sequence<Clause>,
-    lists: Vec<Sequence<u32>>,
+    heads: Vec<Link>,
+    watches: Vec<Watch>,
     seen: Vec<Mark>,
     count: u32,
     looked: usize,
@@ -40,7 +42,7 @@ impl Model for ClauseBook {
     ghost view = { λ b. record { vars = b.vars; clauses = b.clauses; seen = take b.count b.seen.items } };
 
     ghost invariant = { λ b. IsKept (record { vars = b.vars; clauses = b.clauses; seen = take b.count b.seen.items })
-        b.lists.items b.seen.items b.count b.looked b.calm };
+        b.heads.items b.watches.items b.seen.items b.count b.looked b.calm };
 }
 
 impl ClauseBook {
@@ -48,7 +50,7 @@ impl ClauseBook {
         requires { vars ≤ 4000000 }
         ensures { IfOk result (λ book. book ≡ record { vars = vars; clauses = []; seen = [] }) }
     {
-        let lists = empty_lists(alloc, 2 * vars as usize + 2)?;
+        let heads = vec![in alloc; Link::none(); 2 * vars as usize + 2]?;
         let blank = Mark {
             lit: CnfLit::new(1),
             level: 0,
@@ -58,7 +60,8 @@ impl ClauseBook {
             vars,
             alloc,
             clauses: Sequence::new(alloc),
-            lists,
+            heads,
+            watches: Vec::new(alloc),
             seen,
             count: 0,
             looked: 0,
@@ -96,9 +99,9 @@ impl ClauseBook {
         ensures err { OnErr result (self.new ≡ self.old) }
     {
         let _ = trail;
-        let place = place_of(self.clauses.len())?;
-        append(self.alloc, &mut self.clauses, &mut self.lists, lits, place)?;
-        Ok(ClauseId::Book(u64::from(place)))
+        let place = self.clauses.len();
+        append(self.alloc, &mut self.clauses, &mut self.watches, lits)?;
+        Ok(ClauseId::Book(place as u64))
     }
 
     /// The id is one of those that `add` answered.
@@ -124,11 +127,13 @@ impl ClauseBook {
         ensures marked { trail.new.low ≡ length trail.new.puts }
         ensures answer { ScanIs self.old.clauses (lits trail.new.puts) result }
     {
+        let _ = trail.vars();
         let low = trail.low();
         let start = start_of(first_marks(&self.seen, self.count), low, self.calm);
         let scan = spread(
             self.clauses.as_slice(),
-            &self.lists,
+            &mut self.heads,
+            &mut self.watches,
             self.looked,
             start,
             trail,

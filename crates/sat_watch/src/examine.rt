@@ -1,6 +1,6 @@
 //! Clauses are looked at one by one: a unit one forces its literal, and a false one ends the walk.
 
-ghost use Rattle.std.specs.Prelude.{◌≡◌, ℕ, ◌<◌, ◌≤◌, All, MatchBool, MatchOption, Contains, length, nat_abs};
+ghost use Rattle.std.specs.Prelude.{◌≡◌, ℕ, ◌<◌, ◌≤◌, All, MatchBool, MatchOption, length, nat_abs};
 ghost use Rattle.sat_trail.specs.Trail.{lits};
 ghost use Rattle.sat_watch.specs.Book.{IsBookClause, Spreads};
 ghost use Rattle.sat_watch.specs.Scanning.{widened, Weighs, RestsAt, IsRefutedAt};
@@ -40,7 +40,7 @@ fn widened(so_far: Judged, lit: CnfLit) -> Judged
 }
 
 /// Whether the clause at this place is false. If it's unit, its literal goes on the trail.
-pub fn examine(clauses: &[Clause], place: usize, trail: &mut Trail) -> bool
+fn examine(clauses: &[Clause], place: usize, trail: &mut Trail) -> bool
     requires in_range { place < length clauses.now }
     requires clauses { All (IsBookClause trail.old.vars) clauses.now }
     ensures spreads { Spreads clauses.now trail.old trail.new }
@@ -57,39 +57,6 @@ pub fn examine(clauses: &[Clause], place: usize, trail: &mut Trail) -> bool
         Judged::Passed => false,
         Judged::Open => false,
     }
-}
-
-/// The same of a place that may be past the end.
-fn examine_listed(clauses: &[Clause], place: usize, trail: &mut Trail) -> bool
-    requires { All (IsBookClause trail.old.vars) clauses.now }
-    ensures spreads { Spreads clauses.now trail.old trail.new }
-    ensures low { trail.new.low ≡ trail.old.low }
-    ensures answer { MatchBool result (IsRefutedAt clauses.now (lits trail.new.puts) place)
-        (RestsAt clauses.now (lits trail.new.puts) (lits trail.old.puts) place) }
-{
-    if place < clauses.len() {
-        examine(clauses, place, trail)
-    } else {
-        false
-    }
-}
-
-/// The first clause of the list that is false.
-pub fn examine_list(clauses: &[Clause], list: &[u32], trail: &mut Trail) -> Option<usize>
-    requires { All (IsBookClause trail.old.vars) clauses.now }
-    ensures spreads { Spreads clauses.now trail.old trail.new }
-    ensures low { trail.new.low ≡ trail.old.low }
-    ensures answer { MatchOption result
-        ((place : ℕ) → Contains list.now place → RestsAt clauses.now (lits trail.new.puts) (lits trail.old.puts) place)
-        (IsRefutedAt clauses.now (lits trail.new.puts)) }
-{
-    for listed in list {
-        let place = *listed as usize;
-        if examine_listed(clauses, place, trail) {
-            return Some(place);
-        }
-    }
-    None
 }
 
 /// The first clause from this place on that is false.

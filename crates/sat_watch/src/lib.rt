@@ -1,15 +1,19 @@
 //! The clauses that a solver has, and their propagation.
 #![tactic(auto)]
 
+mod append;
+mod begin;
 mod book;
+mod choose;
 mod examine;
-mod listing;
+mod links;
 mod mark;
 mod scan;
 mod seen;
 mod spread;
 #[cfg(test)]
 mod tests;
+mod visit;
 
 pub use book::ClauseBook;
 pub use mark::Mark;

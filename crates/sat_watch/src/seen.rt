@@ -1,6 +1,7 @@
 //! What was seen of a trail: its literals with their levels, and from where on they are to be looked at again.
 
-ghost use Rattle.std.specs.Prelude.{◌≡◌, ◌<◌, ◌≤◌, ◌++◌, length, take, drop};
+ghost use Rattle.std.specs.Prelude.{◌≡◌, ℕ, ◌<◌, ◌≤◌, ◌++◌, IsTrue, length, take, drop};
+ghost use Rattle.sat_trail.specs.Trail.{upto};
 ghost use Rattle.sat_watch.specs.Book.{marks};
 ghost use Rattle.sat_watch.specs.Kept.{IsRising, BeginsLevel, IsStart};
 
@@ -47,6 +48,18 @@ pub fn start_of(seen: &[Mark], low: u32, calm: bool) -> u32
         low
     } else {
         0
+    }
+}
+
+/// Whether no literal from this place on is of a level below the present one.
+pub fn is_standing(trail: &Trail, start: u32) -> bool
+    requires { start ≤ length trail.now.puts }
+    ensures { IsTrue result → (k : ℕ) → k < trail.now.level → length (upto k trail.now.puts) ≤ start }
+{
+    if start < trail.len() {
+        trail.level_at(start) == trail.level()
+    } else {
+        true
     }
 }
 

@@ -1,39 +1,82 @@
-//! Propagation over the clauses and the lists of their places.
+//! Propagation along the trail, over the watches of the literals that it makes false.
 
-ghost use Rattle.std.specs.Prelude.{◌≡◌, ℕ, ◌+◌, ◌*◌, ◌<◌, ◌≤◌, All, MatchOption, length, take};
+ghost use Rattle.std.specs.Prelude.{◌≡◌, ◌<◌, ◌≤◌, ◌+◌, All, MatchOption, length, nat_abs, neg_ℤ, take};
 ghost use Rattle.sat_trail.specs.Trail.{lits};
-ghost use Rattle.sat_watch.specs.Book.{IsBookClause, Spreads, ScanIs};
-ghost use Rattle.sat_watch.specs.Kept.{AreListed, IsCalm};
-ghost use Rattle.sat_watch.specs.Scanning.{Rests, IsRefutedAt};
+ghost use Rattle.sat_watch.specs.Book.{IsBookClause, NoneFalseBelow, NoneUnitBelow, Spreads, ScanIs};
+ghost use Rattle.sat_watch.specs.Kept.{IsWatched, AreSized, Each, EachBefore, EachFrom};
+ghost use Rattle.sat_watch.specs.Links.{watch_lits};
+ghost use Rattle.sat_watch.specs.Scanning.{IsRefutedAt};
+ghost use Rattle.sat_watch.specs.Watching.{IsChosen, AreKnown, AreWatchedBelow, AreWatchedTo};
 
-use crate::examine::{examine_from, examine_list};
-use crate::listing::slot;
+use crate::begin::{Begin, watch_new};
+use crate::examine::examine_from;
+use crate::links::{Link, Watch, first_watch, next_watch};
 use crate::scan::Scan;
-use cnf_base::Clause;
-use ketch_base::Sequence;
+use crate::visit::{Visit, visit_watch};
+use cnf_base::{Clause, CnfLit};
 use sat_trail::{ClauseId, Trail};
 
-/// Looks at the trail's literals from this place on, and at those that come: the place of a clause that is false.
+fn negation(lit: CnfLit) -> CnfLit
+    requires { nat_abs lit ≤ 4000000 }
+    ensures { result ≡ neg_ℤ lit }
+{
+    CnfLit::new(-lit.value())
+}
+
+/// Visits the watches that the trail's literal at this place makes false: the place of a clause that is false.
+fn walk_list(
+    clauses: &[Clause],
+    heads: &mut [Link],
+    watches: &mut [Watch],
+    at: u32,
+    trail: &mut Trail,
+) -> Option<usize>
+    requires clauses { All (IsBookClause trail.old.vars) clauses.now }
+    requires sizes { AreSized trail.old.vars clauses.now heads.old watches.old }
+    requires at { at < length trail.old.puts }
+    requires watched { AreWatchedTo clauses.now heads.old watches.old trail.old at }
+    ensures spreads { Spreads clauses.now trail.old trail.new }
+    ensures low { trail.new.low ≡ trail.old.low }
+    ensures below { AreWatchedBelow clauses.now heads.new watches.new trail.new }
+    ensures answer { MatchOption result (AreWatchedTo clauses.now heads.new watches.new trail.new (at + 1))
+        (IsRefutedAt clauses.now (lits trail.new.puts)) }
+{
+    let _ = trail.vars();
+    let falsified = negation(trail.at(at));
+    let mut previous = None;
+    let mut cursor = first_watch(heads, falsified);
+    while let Some(watch) = cursor {
+        cursor = next_watch(watches, watch);
+        match visit_watch(clauses, heads, watches, previous, watch, trail) {
+            Visit::Kept => previous = Some(watch),
+            Visit::Moved => {}
+            Visit::Conflict => return Some(watch as usize / 2),
+        }
+    }
+    None
+}
+
+/// Walks along the trail from this place on: the place of a clause that is false.
 fn follow(
     clauses: &[Clause],
-    lists: &[Sequence<u32>],
+    heads: &mut [Link],
+    watches: &mut [Watch],
     start: u32,
     trail: &mut Trail,
 ) -> Option<usize>
     requires clauses { All (IsBookClause trail.old.vars) clauses.now }
-    requires room { length lists.now ≡ 2 * trail.old.vars + 2 }
-    requires listed { AreListed clauses.now lists.now }
+    requires sizes { AreSized trail.old.vars clauses.now heads.old watches.old }
     requires start { start ≤ length trail.old.puts }
-    requires rests { All (Rests (lits trail.old.puts) (take start (lits trail.old.puts))) clauses.now }
+    requires watched { AreWatchedTo clauses.now heads.old watches.old trail.old start }
     ensures spreads { Spreads clauses.now trail.old trail.new }
     ensures low { trail.new.low ≡ trail.old.low }
-    ensures answer { MatchOption result (All (Rests (lits trail.new.puts) (lits trail.new.puts)) clauses.now)
+    ensures below { AreWatchedBelow clauses.now heads.new watches.new trail.new }
+    ensures answer { MatchOption result (Each (IsWatched (lits trail.new.puts) (lits trail.new.puts)) clauses.now (watch_lits watches.new))
         (IsRefutedAt clauses.now (lits trail.new.puts)) }
 {
     let mut at = start;
     while at < trail.len() {
-        let list = &lists[slot(trail.at(at))];
-        match examine_list(clauses, list.as_slice(), trail) {
+        match walk_list(clauses, heads, watches, at, trail) {
             Some(place) => return Some(place),
             None => at += 1,
         }
@@ -41,48 +84,58 @@ fn follow(
     None
 }
 
-/// Looks at the clauses from `looked` on, and then at the trail from `start` on: the place of a clause that is false.
+/// Looks at the new clauses, and then at the trail: the place of a clause that is false.
 fn find_false(
     clauses: &[Clause],
-    lists: &[Sequence<u32>],
-    looked: usize,
-    start: u32,
+    heads: &mut [Link],
+    watches: &mut [Watch],
+    begin: Begin,
     trail: &mut Trail,
 ) -> Option<usize>
     requires clauses { All (IsBookClause trail.old.vars) clauses.now }
-    requires room { length lists.now ≡ 2 * trail.old.vars + 2 }
-    requires listed { AreListed clauses.now lists.now }
-    requires start { start ≤ length trail.old.puts }
-    requires calm { All (IsCalm (take start (lits trail.old.puts))) (take looked clauses.now) }
+    requires sizes { AreSized trail.old.vars clauses.now heads.old watches.old }
+    requires literal { begin.literal ≤ length trail.old.puts }
+    requires below { AreWatchedBelow clauses.now heads.old watches.old trail.old }
+    requires old_clauses { EachBefore begin.clause (IsWatched (take begin.literal (lits trail.old.puts)) (take begin.literal (lits trail.old.puts)))
+        clauses.now (watch_lits watches.old) }
+    requires new_clauses { EachFrom begin.clause (IsChosen trail.old.puts) clauses.now (watch_lits watches.old) }
     ensures spreads { Spreads clauses.now trail.old trail.new }
     ensures low { trail.new.low ≡ trail.old.low }
-    ensures answer { MatchOption result (All (Rests (lits trail.new.puts) (lits trail.new.puts)) clauses.now)
+    ensures below { AreWatchedBelow clauses.now heads.new watches.new trail.new }
+    ensures answer { MatchOption result (Each (IsWatched (lits trail.new.puts) (lits trail.new.puts)) clauses.now (watch_lits watches.new))
         (IsRefutedAt clauses.now (lits trail.new.puts)) }
 {
-    match examine_from(clauses, looked, trail) {
+    let _ = trail.vars();
+    match examine_from(clauses, begin.clause, trail) {
         Some(place) => Some(place),
-        None => follow(clauses, lists, start, trail),
+        None => follow(clauses, heads, watches, begin.literal, trail),
     }
 }
 
-/// Propagates, where the clauses before `looked` are calm under the first `start` literals of the trail.
+/// Propagates, where the clauses before `looked` are watched under the first `start` literals of the trail.
 pub fn spread(
     clauses: &[Clause],
-    lists: &[Sequence<u32>],
+    heads: &mut [Link],
+    watches: &mut [Watch],
     looked: usize,
     start: u32,
     trail: &mut Trail,
 ) -> Scan
     requires clauses { All (IsBookClause trail.old.vars) clauses.now }
-    requires room { length lists.now ≡ 2 * trail.old.vars + 2 }
-    requires listed { AreListed clauses.now lists.now }
+    requires sizes { AreSized trail.old.vars clauses.now heads.old watches.old }
+    requires looked { looked ≤ length clauses.now }
     requires start { start ≤ length trail.old.puts }
-    requires calm { All (IsCalm (take start (lits trail.old.puts))) (take looked clauses.now) }
+    requires known { AreKnown clauses.now heads.old watches.old trail.old looked start }
+    requires none_false { NoneFalseBelow clauses.now trail.old }
+    requires none_unit { NoneUnitBelow clauses.now trail.old }
     ensures spreads { Spreads clauses.now trail.old trail.new }
     ensures low { trail.new.low ≡ trail.old.low }
+    ensures below { AreWatchedBelow clauses.now heads.new watches.new trail.new }
+    ensures watched { result ≡ Scan.Quiet → Each (IsWatched (lits trail.new.puts) (lits trail.new.puts)) clauses.now (watch_lits watches.new) }
     ensures answer { ScanIs clauses.now (lits trail.new.puts) result }
 {
-    match find_false(clauses, lists, looked, start, trail) {
+    let begin = watch_new(clauses, heads, watches, looked, start, trail);
+    match find_false(clauses, heads, watches, begin, trail) {
         None => Scan::Quiet,
         Some(place) => Scan::Conflict(ClauseId::Book(place as u64)),
     }

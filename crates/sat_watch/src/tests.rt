@@ -1,6 +1,6 @@
 //! A book and its trail, step by step.
 
-ghost use Rattle.std.specs.Prelude.{◌≡◌, [], IfOk, OnOk};
+ghost use Rattle.std.specs.Prelude.{◌≡◌, [], ◌∷◌, ◌++◌, IfOk, OnOk};
 ghost use Rattle.sat_watch.specs.Book.{IsBookClause};
 ghost use Rattle.sat_watch.specs.Ready.{IsReady, IsSettled};
 
@@ -53,7 +53,8 @@ fn triple(
 fn add(book: &mut ClauseBook, trail: &Trail, clause: &Clause) -> Result<(), Fail>
     requires new { trail.now ≡ record { vars = book.old.vars; puts = []; level = 0; low = 0 } }
     requires clause { IsBookClause book.old.vars clause.now }
-    ensures { OnOk result (trail.now ≡ record { vars = book.new.vars; puts = []; level = 0; low = 0 }) }
+    ensures new { OnOk result (trail.now ≡ record { vars = book.new.vars; puts = []; level = 0; low = 0 }) }
+    ensures clauses { OnOk result (book.new.clauses ≡ book.old.clauses ++ clause.now ∷ []) }
 {
     book.add(clause, trail)?;
     Ok(())
@@ -79,8 +80,27 @@ fn decide(rt: &impl Abort, book: &ClauseBook, trail: &mut Trail, value: i32)
     let _ = book;
 }
 
+/// A decision right after another one: the only clause has two open literals.
+fn decide_again(rt: &impl Abort, book: &ClauseBook, trail: &mut Trail, clause: &Clause, value: i32)
+    requires ready { IsReady book.now trail.old }
+    requires only { book.now.clauses ≡ clause.now ∷ [] }
+    ensures { IsReady book.now trail.new }
+{
+    assert!(rt; clause.len() == 3);
+    let (second, third) = (*clause.get(1), *clause.get(2));
+    assert!(rt; second.var() <= trail.vars());
+    assert!(rt; third.var() <= trail.vars());
+    assert!(rt; second.var() != third.var());
+    let second_unset = trail.value(second) == Value::Unset;
+    assert!(rt; second_unset);
+    let third_unset = trail.value(third) == Value::Unset;
+    assert!(rt; third_unset);
+    decide(rt, book, trail, value);
+}
+
 fn propagate(book: &mut ClauseBook, trail: &mut Trail) -> Scan
     requires { IsReady book.old trail.old }
+    ensures clauses { book.new.clauses ≡ book.old.clauses }
     ensures ready { IsReady book.new trail.new }
     ensures settled { result ≡ Scan.Quiet → IsSettled book.new trail.new }
 {
@@ -153,5 +173,30 @@ fn false_clause_is_named(rt: HostRuntime) -> Result<(), Fail> {
     let quiet = propagate(&mut book, &mut trail);
     assert!(rt; is_quiet(quiet));
     assert_eq!(rt; (trail.len(), book.len()), (1, 3));
+    Ok(())
+}
+
+/// After two decisions the clause watches its open literals, and not the first ones: so it's unit once they are false.
+#[test]
+fn watches_are_chosen_anew(rt: HostRuntime) -> Result<(), Fail> {
+    let mut book = ClauseBook::new(rt.alloc(), 3)?;
+    let mut trail = Trail::new(rt.alloc(), 3)?;
+    let clause = triple(&rt, rt.alloc(), 3, 1, 2, 3)?;
+    add(&mut book, &trail, &clause)?;
+    begin(&book, &trail);
+    let first = propagate(&mut book, &mut trail);
+    assert!(rt; is_quiet(first));
+    decide(&rt, &book, &mut trail, -1);
+    decide_again(&rt, &book, &mut trail, &clause, 2);
+    let second = propagate(&mut book, &mut trail);
+    assert!(rt; is_quiet(second));
+    go_back(&rt, &book, &mut trail, 1);
+    decide(&rt, &book, &mut trail, -3);
+    let third = propagate(&mut book, &mut trail);
+    assert!(rt; is_quiet(third));
+    assert_eq!(rt;
+        seen(&rt, &trail, 2),
+        (Value::True, Some(2), Some(ClauseId::Book(0)))
+    );
     Ok(())
 }

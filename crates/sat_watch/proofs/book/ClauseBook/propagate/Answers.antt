@@ -1,30 +1,48 @@
-use Rattle.std.proofs.Common.{◌≡◌, ℕ, ◌≤◌, ◌++◌, ℤ, List, length, take, drop, ap, sym, ◌∙◌, subst, arith}
-use Rattle.std.specs.List.{All}
+use Rattle.std.proofs.Common.{◌≡◌, ℕ, ◌≤◌, ◌++◌, ℤ, Option, List, length, take, drop, ap, sym, ◌∙◌, subst, arith}
 use Rattle.std.proofs.lemmas.List.{with_items_is}
 use Rattle.sat_trail.specs.Trail.{TrailState, lits}
+use Rattle.sat_watch.specs.declared.links.Watch.{Watch}
 use Rattle.sat_watch.specs.declared.mark.Mark.{Mark}
-use Rattle.sat_watch.specs.Book.{BookState, marks, NoneFalseBelow, NoneUnitBelow, Spreads, ScanIs}
-use Rattle.sat_watch.specs.Kept.{IsCalm, IsStart, IsKept}
-use Rattle.sat_watch.proofs.Seeing.{start_is_calm, seen_after, IsKept-after}
+use Rattle.sat_watch.specs.declared.scan.Scan.TheVariants.{Quiet}
+use Rattle.sat_watch.specs.Book.{BookState, marks, NoneFalseBelow, NoneUnitBelow, ScanIs}
+use Rattle.sat_watch.specs.Kept.{IsWatched, Each, IsStart, IsKept}
+use Rattle.sat_watch.specs.Links.{watch_lits}
+use Rattle.sat_watch.specs.Watching.{AreKnown, AreWatchedBelow}
+use Rattle.sat_watch.proofs.Seeing.{known_at_start, seen_after, IsKept-after}
 use Rattle.sat_watch.proofs.book.ClauseBook.propagate.Goals as goal
 
-pub spread-scan-requires-clause-calm : goal.spread-scan-requires-clause-calm
-spread-scan-requires-clause-calm c =
+pub spread-scan-requires-clause-known : goal.spread-scan-requires-clause-known
+spread-scan-requires-clause-known c =
     let s = c.self.inside in
-    let seen = take s.count s.seen.items in
-    let A : BookState → Type 0 = λ b. take c.args.trail.now.low (marks c.args.trail.now.puts) ≡ take c.args.trail.now.low b.seen in
+    let t = c.args.trail.now in
+    let b : BookState = record { vars = s.vars; clauses = s.clauses; seen = take s.count s.seen.items } in
+    let A : BookState → Type 0 = λ x. take t.low (marks t.puts) ≡ take t.low x.seen in
     let agrees = subst A (sym c.self.view_is) c.requires.agrees in
-    let B : ℕ → Type 0 = λ n. take n (marks c.args.trail.now.puts) ≡ take n seen in
-    let marks_are : c.first_marks.result.now ≡ seen = c.first_marks.ensures ∙ ap (take s.count) c.deref.ensures.value in
+    let marks_are : c.first_marks.result.now ≡ b.seen = c.first_marks.ensures ∙ ap (take s.count) c.deref.ensures.value in
     let S : List Mark → Type 0 = λ ms. IsStart ms s.calm c.start_of-start.result in
-    let C : List (List ℤ) → Type 0 = λ cs. All (IsCalm (take c.start_of-start.result (lits c.args.trail.now.puts))) (take s.looked cs) in
-    subst C (sym c.as_slice.ensures)
-    (start_is_calm s.vars s.clauses s.looked seen s.calm c.args.trail.now.puts c.low-low.result c.start_of-start.result c.self.invariant.clauses c.self.invariant.calm_before c.self.invariant.calm_whole (subst B (sym c.low-low.ensures.value) agrees) c.start_of-start.ensures.at_most (subst S marks_are c.start_of-start.ensures.start))
+    let le : c.start_of-start.result ≤ t.low = omega (arith, c.start_of-start.ensures.at_most, c.low-low.ensures.value) in
+    let known = known_at_start b s.heads.items s.watches.items s.seen.items s.count s.looked s.calm t c.start_of-start.result c.self.invariant c.vars.ensures.well_formed agrees le (subst S marks_are c.start_of-start.ensures.start) in
+    let C : List (List ℤ) → Type 0 = λ cs. AreKnown cs c.deref_mut.result.now c.deref_mut-2.result.now t s.looked c.start_of-start.result in
+    let H : List (Option ℕ) → Type 0 = λ hs. AreKnown s.clauses hs c.deref_mut-2.result.now t s.looked c.start_of-start.result in
+    let W : List Watch → Type 0 = λ ws. AreKnown s.clauses s.heads.items ws t s.looked c.start_of-start.result in
+    subst C (sym c.as_slice.ensures) (subst H (sym c.deref_mut.ensures.value) (subst W (sym c.deref_mut-2.ensures.value) known))
+
+pub spread-scan-requires-clause-none_false : goal.spread-scan-requires-clause-none_false
+spread-scan-requires-clause-none_false c =
+    let B : BookState → Type 0 = λ b. NoneFalseBelow b.clauses c.args.trail.now in
+    let C : List (List ℤ) → Type 0 = λ cs. NoneFalseBelow cs c.args.trail.now in
+    subst C (sym c.as_slice.ensures) (subst B (sym c.self.view_is) c.requires.none_false)
+
+pub spread-scan-requires-clause-none_unit : goal.spread-scan-requires-clause-none_unit
+spread-scan-requires-clause-none_unit c =
+    let B : BookState → Type 0 = λ b. NoneUnitBelow b.clauses c.args.trail.now in
+    let C : List (List ℤ) → Type 0 = λ cs. NoneUnitBelow cs c.args.trail.now in
+    subst C (sym c.as_slice.ensures) (subst B (sym c.self.view_is) c.requires.none_unit)
 
 seen_is : (c : goal.After-mark) → take c.len-count.result (take c.self.inside.seen.len (c.note.new.seen ++ drop (length c.note.new.seen) c.self.inside.seen.items)) ≡ marks c.spread-scan.new.trail.puts
 seen_is c =
     let s = c.self.inside in
-    let len : length c.note.new.seen ≡ s.seen.len = omega (arith, c.note.auto.seen, c.deref_mut.ensures.len) in
+    let len : length c.note.new.seen ≡ s.seen.len = omega (arith, c.note.auto.seen, c.deref_mut-3.ensures.len) in
     let A : BookState → Type 0 = λ b. take c.args.trail.now.low (marks c.args.trail.now.puts) ≡ take c.args.trail.now.low b.seen in
     let agrees = subst A (sym c.self.view_is) c.requires.agrees in
     let B : ℕ → Type 0 = λ n. take n (marks c.args.trail.now.puts) ≡ take n (take s.count s.seen.items) in
@@ -33,29 +51,41 @@ seen_is c =
     ap (take c.len-count.result) (with_items_is s.seen c.note.new.seen len)
     ∙ ap (λ n. take n c.note.new.seen) c.len-count.ensures.value
     ∙ seen_after s.seen.items c.note.new.seen c.args.trail.now.puts step.more c.spread-scan.new.trail.puts s.count c.low-low.result room c.low-low.ensures.at_most (subst B (sym c.low-low.ensures.value) agrees) step.puts
-    (c.note.ensures ∙ ap (λ ms. take c.low-low.result ms ++ drop c.low-low.result (marks c.spread-scan.new.trail.puts)) c.deref_mut.ensures.value)
+    (c.note.ensures ∙ ap (λ ms. take c.low-low.result ms ++ drop c.low-low.result (marks c.spread-scan.new.trail.puts)) c.deref_mut-3.ensures.value)
+
+-- the book over the lists of links and watches as they were written
+kept : (c : goal.After-mark) → IsKept (record { vars = c.self.inside.vars; clauses = c.self.inside.clauses; seen = marks c.spread-scan.new.trail.puts }) c.spread-scan.new.heads c.spread-scan.new.watches c.note.new.seen (length c.spread-scan.new.trail.puts) (length c.self.inside.clauses) c.is_quiet-self-inside.result
+kept c =
+    let s = c.self.inside in
+    let b : BookState = record { vars = s.vars; clauses = s.clauses; seen = take s.count s.seen.items } in
+    let new = c.spread-scan.new.trail in
+    let V : BookState → Type 0 = λ x. c.args.trail.now.vars ≡ x.vars in
+    let A : List (List ℤ) → Type 0 = λ cs. AreWatchedBelow cs c.spread-scan.new.heads c.spread-scan.new.watches new in
+    let Q : List (List ℤ) → Type 0 = λ cs. c.spread-scan.result ≡ Quiet → Each (IsWatched (lits new.puts) (lits new.puts)) cs (watch_lits c.spread-scan.new.watches) in
+    IsKept-after b s.heads.items c.spread-scan.new.heads s.watches.items c.spread-scan.new.watches s.seen.items c.note.new.seen s.count s.looked s.calm c.is_quiet-self-inside.result new c.spread-scan.result c.self.invariant
+    (c.spread-scan.ensures.spreads.vars ∙ subst V (sym c.self.view_is) c.requires.vars) c.len-count.ensures.well_formed (omega (arith, c.len-count.ensures.value, c.len-count.ensures.at_most))
+    (c.note.auto.seen ∙ ap length c.deref_mut-3.ensures.value) (c.spread-scan.auto.heads ∙ ap length c.deref_mut.ensures.value) (c.spread-scan.auto.watches ∙ ap length c.deref_mut-2.ensures.value)
+    (subst A c.as_slice.ensures c.spread-scan.ensures.below) (subst Q c.as_slice.ensures c.spread-scan.ensures.watched) c.is_quiet-self-inside.ensures.0
 
 pub invariant_of-self : goal.invariant_of-self
 invariant_of-self c =
     let s = c.self.inside in
-    let b : BookState = record { vars = s.vars; clauses = s.clauses; seen = take s.count s.seen.items } in
-    let items = take s.seen.len (c.note.new.seen ++ drop (length c.note.new.seen) s.seen.items) in
     let new = c.spread-scan.new.trail in
     let quiet = c.is_quiet-self-inside.result in
-    let len : length c.note.new.seen ≡ s.seen.len = omega (arith, c.note.auto.seen, c.deref_mut.ensures.len) in
-    let len_items : length items ≡ length s.seen.items = ap length (with_items_is s.seen c.note.new.seen len) ∙ c.note.auto.seen ∙ ap length c.deref_mut.ensures.value in
-    let V : BookState → Type 0 = λ x. c.args.trail.now.vars ≡ x.vars in
-    let F : BookState → Type 0 = λ x. NoneFalseBelow x.clauses c.args.trail.now in
-    let U : BookState → Type 0 = λ x. NoneUnitBelow x.clauses c.args.trail.now in
-    let S : List (List ℤ) → Type 0 = λ cs. Spreads cs c.args.trail.now new in
-    let A : List (List ℤ) → Type 0 = λ cs. ScanIs cs (lits new.puts) c.spread-scan.result in
-    let kept = IsKept-after b s.lists.items s.seen.items items s.count s.looked s.calm quiet c.args.trail.now new c.spread-scan.result c.self.invariant
-    (subst V (sym c.self.view_is) c.requires.vars) (subst F (sym c.self.view_is) c.requires.none_false) (subst U (sym c.self.view_is) c.requires.none_unit)
-    (subst S c.as_slice.ensures c.spread-scan.ensures.spreads) c.len-count.ensures.well_formed (omega (arith, c.len-count.ensures.value, c.len-count.ensures.at_most)) len_items c.is_quiet-self-inside.ensures.0 (subst A c.as_slice.ensures c.spread-scan.ensures.answer) in
-    let P : List Mark → Type 0 = λ ms. IsKept (record { vars = s.vars; clauses = s.clauses; seen = ms }) s.lists.items items (length new.puts) (length s.clauses) quiet in
-    let Q : ℕ → Type 0 = λ n. IsKept (record { vars = s.vars; clauses = s.clauses; seen = take c.len-count.result items }) s.lists.items items n (length s.clauses) quiet in
-    let R : ℕ → Type 0 = λ n. IsKept (record { vars = s.vars; clauses = s.clauses; seen = take c.len-count.result items }) s.lists.items items c.len-count.result n quiet in
-    subst R (sym c.len-looked.ensures) (subst Q (sym c.len-count.ensures.value) (subst P (sym (seen_is c)) kept))
+    let items = take s.seen.len (c.note.new.seen ++ drop (length c.note.new.seen) s.seen.items) in
+    let heads = take s.heads.len (c.spread-scan.new.heads ++ drop (length c.spread-scan.new.heads) s.heads.items) in
+    let watches = take s.watches.len (c.spread-scan.new.watches ++ drop (length c.spread-scan.new.watches) s.watches.items) in
+    let seen = marks new.puts in
+    let seen_same = with_items_is s.seen c.note.new.seen (omega (arith, c.note.auto.seen, c.deref_mut-3.ensures.len)) in
+    let heads_same = with_items_is s.heads c.spread-scan.new.heads (omega (arith, c.spread-scan.auto.heads, c.deref_mut.ensures.len)) in
+    let watches_same = with_items_is s.watches c.spread-scan.new.watches (omega (arith, c.spread-scan.auto.watches, c.deref_mut-2.ensures.len)) in
+    let H : List (Option ℕ) → Type 0 = λ hs. IsKept (record { vars = s.vars; clauses = s.clauses; seen = seen }) hs c.spread-scan.new.watches c.note.new.seen (length new.puts) (length s.clauses) quiet in
+    let W : List Watch → Type 0 = λ ws. IsKept (record { vars = s.vars; clauses = s.clauses; seen = seen }) heads ws c.note.new.seen (length new.puts) (length s.clauses) quiet in
+    let I : List Mark → Type 0 = λ ms. IsKept (record { vars = s.vars; clauses = s.clauses; seen = seen }) heads watches ms (length new.puts) (length s.clauses) quiet in
+    let S : List Mark → Type 0 = λ ms. IsKept (record { vars = s.vars; clauses = s.clauses; seen = ms }) heads watches items (length new.puts) (length s.clauses) quiet in
+    let N : ℕ → Type 0 = λ n. IsKept (record { vars = s.vars; clauses = s.clauses; seen = take c.len-count.result items }) heads watches items n (length s.clauses) quiet in
+    let L : ℕ → Type 0 = λ n. IsKept (record { vars = s.vars; clauses = s.clauses; seen = take c.len-count.result items }) heads watches items c.len-count.result n quiet in
+    subst L (sym c.len-looked.ensures) (subst N (sym c.len-count.ensures.value) (subst S (sym (seen_is c)) (subst I (sym seen_same) (subst W (sym watches_same) (subst H (sym heads_same) (kept c))))))
 
 pub returns-clause-book : goal.returns-clause-book
 returns-clause-book c =

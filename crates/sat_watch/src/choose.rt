@@ -1,0 +1,124 @@
+//! The choice of a clause's two watches: the literals that are falsified last.
+
+ghost use Rattle.std.specs.Prelude.{◌≡◌, ◌≢◌, ℤ, List, [], ◌∷◌, ◌++◌, ◌*◌, ◌≤◌, All, MatchBool, IsFalse, length, nat_abs, take};
+ghost use Rattle.cnf_base.specs.Judged.{has};
+ghost use Rattle.sat_watch.specs.Book.{IsBookClause};
+ghost use Rattle.sat_watch.specs.Kept.{EachFrom};
+ghost use Rattle.sat_watch.specs.Links.{watch_lits};
+ghost use Rattle.sat_watch.specs.Watching.{IsFalseFrom, Lasts, IsChosen};
+
+use crate::links::{Link, Watch};
+use cnf_base::{Clause, CnfLit};
+use sat_trail::{Trail, Value};
+
+/// Two literals of a clause.
+#[derive(Clone, Copy)]
+struct Pair {
+    first: CnfLit,
+    second: CnfLit,
+}
+
+/// The level from which on a literal is false: none where it isn't false.
+fn false_level(trail: &Trail, lit: CnfLit) -> Option<u32>
+    requires { nat_abs lit ≤ trail.now.vars }
+    ensures { IsFalseFrom trail.now.puts lit result }
+{
+    let _ = trail.vars();
+    match trail.value(lit) {
+        Value::False => trail.level_of(lit.var()),
+        _ => None,
+    }
+}
+
+/// Whether the first literal is falsified no earlier than the second.
+fn lasts(trail: &Trail, first: CnfLit, second: CnfLit) -> bool
+    requires first { nat_abs first ≤ trail.now.vars }
+    requires second { nat_abs second ≤ trail.now.vars }
+    ensures { MatchBool result (Lasts trail.now.puts first second) (Lasts trail.now.puts second first) }
+{
+    match false_level(trail, first) {
+        None => true,
+        Some(level) => match false_level(trail, second) {
+            None => false,
+            Some(other) => other <= level,
+        },
+    }
+}
+
+fn in_order(trail: &Trail, a: CnfLit, b: CnfLit) -> Pair
+    requires a { nat_abs a ≤ trail.now.vars }
+    requires b { nat_abs b ≤ trail.now.vars }
+    requires differ { a ≢ b }
+    ensures { IsChosen trail.now.puts (a ∷ b ∷ []) result.first result.second }
+{
+    if lasts(trail, a, b) {
+        Pair {
+            first: a,
+            second: b,
+        }
+    } else {
+        Pair {
+            first: b,
+            second: a,
+        }
+    }
+}
+
+/// The choice where the clause has one literal more.
+fn with_one_more(trail: &Trail, pair: Pair, lit: CnfLit) -> Pair
+    requires first { nat_abs pair.first ≤ trail.now.vars }
+    requires second { nat_abs pair.second ≤ trail.now.vars }
+    requires lit { nat_abs lit ≤ trail.now.vars }
+    ensures { (clause : List ℤ) → IsFalse (has clause lit) → IsChosen trail.now.puts clause pair.first pair.second
+        → IsChosen trail.now.puts (clause ++ lit ∷ []) result.first result.second }
+{
+    if lasts(trail, pair.second, lit) {
+        pair
+    } else if lasts(trail, pair.first, lit) {
+        Pair {
+            first: pair.first,
+            second: lit,
+        }
+    } else {
+        Pair {
+            first: lit,
+            second: pair.first,
+        }
+    }
+}
+
+fn choose(trail: &Trail, clause: &[CnfLit]) -> Pair
+    requires { IsBookClause trail.now.vars clause.now }
+    ensures { IsChosen trail.now.puts clause.now result.first result.second }
+{
+    let mut pair = in_order(trail, clause[0], clause[1]);
+    for place in 2..clause.len() {
+        pair = with_one_more(trail, pair, clause[place]);
+    }
+    pair
+}
+
+/// Chooses the watches of the clauses from this place on. They aren't linked yet.
+pub fn choose_from(clauses: &[Clause], watches: &mut [Watch], from: usize, trail: &Trail)
+    requires clauses { All (IsBookClause trail.now.vars) clauses.now }
+    requires two_each { length watches.old ≡ 2 * length clauses.now }
+    requires from { from ≤ length clauses.now }
+    ensures others { take (2 * from) watches.new ≡ take (2 * from) watches.old }
+    ensures chosen { EachFrom from (IsChosen trail.now.puts) clauses.now (watch_lits watches.new) }
+{
+    for place in from..clauses.len() {
+        let pair = choose(trail, clauses[place].as_slice());
+        watches[2 * place] = unlinked(pair.first);
+        watches[2 * place + 1] = unlinked(pair.second);
+    }
+}
+
+/// A watch in no list.
+pub fn unlinked(lit: CnfLit) -> Watch
+    ensures { result.lit ≡ lit }
+{
+    Watch {
+        lit,
+        next: Link::none(),
+    }
+}
