@@ -11,7 +11,7 @@ use Rattle.cnf_base.proofs.Literals.{same_lit-true, neg_ℤ-neg_ℤ, has-head, h
 use Rattle.lrat_text.specs.Accepted.{Ends}
 use Rattle.sat_trail.specs.Trail.{Put, TrailState, IsTrail, lits, upto}
 use Rattle.sat_trail.proofs.Valuing.{each_from}
-use Rattle.sat_learn.specs.Lesson.{IsLesson}
+use Rattle.sat_learn.specs.Lesson.{AreAtRoot, IsLesson}
 use Rattle.sat_learn.specs.Resolving.{is_marked, StandsAt, Refutes, IsFalseAt}
 use Rattle.sat_learn.specs.Tracking.{IsGreatestLevel}
 use Rattle.sat_learn.proofs.Puts.{put_there, one_put, false_at_one, true_by, upto_true, true_upto, nat_abs-neg_ℤ, true_literal}
@@ -118,8 +118,8 @@ point_false t marks kept place first h =
       at_level = h.at_level;
     }
 
-pub lesson_from : (t : TrailState) (marks : List Bool) (kept : List ℤ) (place : ℕ) (first : ℤ) (back : ℕ) (hints : List ℤ) (h : IsResolved t marks kept place first) → IsTrail t → IsGreatestLevel t kept back → IsLesson t (record { lits = first ∷ kept; back = back; hints = hints })
-lesson_from t marks kept place first back hints h trail greatest =
+pub lesson_from : (t : TrailState) (marks : List Bool) (kept : List ℤ) (place : ℕ) (first : ℤ) (back : ℕ) (hints : List ℤ) (roots : List ℕ) (h : IsResolved t marks kept place first) → IsTrail t → IsGreatestLevel t kept back → AreAtRoot t.puts roots → IsLesson t (record { lits = first ∷ kept; back = back; hints = hints; roots = roots })
+lesson_from t marks kept place first back hints roots h trail greatest at_root =
     let is = h.negated in
     let point = point_false t marks kept place first h in
     let above = h.above in
@@ -147,6 +147,7 @@ lesson_from t marks kept place first back hints h trail greatest =
         | inl none ↦ absurd (omega arith)
         | inr some ↦ (some.0, some.1, free_upto t some.0 back k trail some.2 lt)
       ];
+      at_root = at_root;
     }
 
 -- nothing is marked when these are unmarked

@@ -2,6 +2,7 @@ pub mod Puts
 pub mod Refuting
 pub mod Counting
 pub mod Antecedents
+pub mod Explaining
 pub mod Marking
 pub mod Tracked
 pub mod ResolveStep

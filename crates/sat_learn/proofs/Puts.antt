@@ -8,6 +8,7 @@ use Rattle.std.proofs.lemmas.Map.Keys.{IsDistinct-head, IsDistinct-tail}
 use Rattle.cnf_base.specs.Judged.{same_lit, has}
 use Rattle.cnf_base.specs.Dimacs.{IsLiteral}
 use Rattle.cnf_base.proofs.Literals.{same_lit-true, has-head}
+use Rattle.lrat_text.specs.Accepted.{IsBothWays}
 use Rattle.sat_trail.specs.declared.clause_id.ClauseId.{ClauseId}
 use Rattle.sat_trail.specs.Trail.{Put, TrailState, IsTrail, lits, upto, put_of, Climbs, Joins}
 use Rattle.sat_trail.proofs.Climbing.{Joins-near}
@@ -121,6 +122,15 @@ true_before (q ∷ ps) (suc n) l h =
       | inr e ↦ (let found = true_before ps n l e in (suc found.0, found.1, found.2, found.3, omega (arith, found.4)))
     ]
 
+pub before_there : (ps : List Put) (n i : ℕ) (p : Put) → StandsAt ps i p → i < n → has (lits (take n ps)) p.lit ≡ true
+before_there ps zero i p h lt = absurd (omega arith)
+before_there [] (suc n) i p h lt = cc
+before_there (q ∷ ps) (suc n) zero p h lt =
+    let same : q ≡ p = cc in
+    let P : Put → Type 0 = λ r. (same_lit q.lit r.lit || has (lits (take n ps)) r.lit) ≡ true in
+    subst P same (has-head q.lit (lits (take n ps)))
+before_there (q ∷ ps) (suc n) (suc i) p h lt = or_right (same_lit q.lit p.lit) (has (lits (take n ps)) p.lit) (before_there ps n i p h (omega arith))
+
 -- ---- levels
 
 pub level_from : (from : ℕ) (ps : List Put) (to : ℕ) (i : ℕ) (p : Put) → Climbs from ps to → StandsAt ps i p → from ≤ p.level
@@ -203,7 +213,7 @@ nat_abs-neg_ℤ (pos zero) = refl
 nat_abs-neg_ℤ (pos (suc n)) = refl
 nat_abs-neg_ℤ (negsuc n) = refl
 
-own_negation : (l : ℤ) → neg_ℤ l ≡ l → l ≡ pos 0
+pub own_negation : (l : ℤ) → neg_ℤ l ≡ l → l ≡ pos 0
 own_negation (pos zero) h = refl
 own_negation (pos (suc n)) h = cc
 own_negation (negsuc n) h = cc
@@ -220,13 +230,14 @@ pub true_literal : (t : TrailState) (l : ℤ) → IsTrail t → has (lits t.puts
 true_literal t l h k = literal_in (IsLiteral t.vars) (lits t.puts) l (recursion_from_All (IsLiteral t.vars) (lits t.puts) h.in_range) k
 
 -- no literal is true and false
-pub not_both : (t : TrailState) (l : ℤ) → IsTrail t → has (lits t.puts) l ≡ true → has (lits t.puts) (neg_ℤ l) ≡ true → ⊥
-not_both t l h a b =
-    let p = put_there t.puts l a in
-    let q = put_there t.puts (neg_ℤ l) b in
+pub one_way : (t : TrailState) → IsTrail t → IsBothWays (lits t.puts) → ⊥
+one_way t h both =
+    let l = both.0 in
+    let p = put_there t.puts l both.1 in
+    let q = put_there t.puts (neg_ℤ l) both.2 in
     let same : p.1 ≡ q.1 = one_put t p.0 q.0 p.1 q.1 h p.2 q.2 (ap nat_abs p.3 ∙ sym (nat_abs-neg_ℤ l) ∙ ap nat_abs (sym q.3)) in
     let own : neg_ℤ l ≡ l = sym q.3 ∙ ap (λ (r : Put). r.lit) (sym same) ∙ p.3 in
-    (true_literal t l h a).not_zero (own_negation l own)
+    (true_literal t l h both.1).not_zero (own_negation l own)
 
 -- the put by which a literal is false
 pub put_of_false : (t : TrailState) (l : ℤ) (var : ℕ) → IsTrail t → has (lits t.puts) (neg_ℤ l) ≡ true → var ≡ nat_abs l → (i : ℕ) × (p : Put) × StandsAt t.puts i p × (p.lit ≡ neg_ℤ l) × (put_of var t.puts ≡ Some p)

@@ -1,24 +1,25 @@
 -- Hints that end under the marked literals.
-use Rattle.std.proofs.Common.{◌≡◌, ℕ, zero, suc, Bool, true, false, ℤ, pos, negsuc, neg_ℤ, ◌⊎◌, List, [], ◌∷◌, ◌++◌, map, get_or, refl, ap, sym, ◌∙◌, subst, arith, inl, inr}
+use Rattle.std.proofs.Common.{◌≡◌, ℕ, zero, suc, Bool, true, false, ℤ, pos, negsuc, neg_ℤ, ◌⊎◌, Some, List, [], ◌∷◌, ◌++◌, map, get_or, refl, ap, sym, ◌∙◌, subst, arith, inl, inr}
 use Rattle.std.proofs.lemmas.Bool.{cases_Bool, or_cases, or_left, or_right, false_from_ne_true}
 use Rattle.cnf_base.specs.Judged.{same_lit, has, IsFalseIn, IsRefutedIn, IsUnitIn}
 use Rattle.cnf_base.proofs.Literals.{same_lit-true, has-head, has-append}
-use Rattle.lrat_text.specs.Accepted.{Ends}
+use Rattle.lrat_text.specs.Standing.{clause_at}
+use Rattle.lrat_text.specs.Accepted.{Ends, IsBothWays}
 use Rattle.sat_trail.specs.Trail.{Put, TrailState, IsTrail, lits}
 use Rattle.sat_learn.specs.Reasons.{IsCalled, AreCalled}
-use Rattle.sat_learn.specs.Resolving.{is_marked, StandsAt, Refutes, IsAntecedent}
-use Rattle.sat_learn.proofs.Puts.{true_there, true_before, nat_abs-neg_ℤ, not_both}
+use Rattle.sat_learn.specs.Resolving.{is_marked, Refutes, IsAntecedent}
+use Rattle.sat_learn.proofs.Puts.{nat_abs-neg_ℤ, one_way}
 
 pub marked-neg_ℤ : (marks : List Bool) (l : ℤ) → is_marked marks (neg_ℤ l) ≡ is_marked marks l
 marked-neg_ℤ marks l = ap (λ n. get_or marks n false) (nat_abs-neg_ℤ l)
 
 -- the false literal of a true one that is assumed
-false_in : (t : TrailState) (assumed : List ℤ) (m : ℤ) → IsTrail t → ((l : ℤ) → has assumed l ≡ true → has (lits t.puts) l ≡ true) → has assumed (neg_ℤ m) ≡ true → IsFalseIn assumed m
-false_in t assumed m h within there =
-    (false_from_ne_true (has assumed m) (λ e. not_both t m h (within m e) (within (neg_ℤ m) there)), there)
+false_in : (true_lits assumed : List ℤ) (m : ℤ) → (IsBothWays true_lits → ⊥) → ((l : ℤ) → has assumed l ≡ true → has true_lits l ≡ true) → has assumed (neg_ℤ m) ≡ true → IsFalseIn assumed m
+false_in true_lits assumed m one_way within there =
+    (false_from_ne_true (has assumed m) (λ e. one_way (m, within m e, within (neg_ℤ m) there)), there)
 
 -- one more literal that is true
-assumed_more : (assumed : List ℤ) (l x : ℤ) → has (assumed ++ l ∷ []) x ≡ true → (has assumed x ≡ true) ⊎ (l ≡ x)
+pub assumed_more : (assumed : List ℤ) (l x : ℤ) → has (assumed ++ l ∷ []) x ≡ true → (has assumed x ≡ true) ⊎ (l ≡ x)
 assumed_more assumed l x h =
     elim (or_cases (has assumed x) (has (l ∷ []) x) (sym (has-append assumed (l ∷ []) x) ∙ h)) [
       | inl e ↦ inl e
@@ -28,9 +29,19 @@ assumed_more assumed l x h =
       ]
     ]
 
--- the literal at a place is resolved with its antecedent
-pub refutes_resolve : (clauses : List (List ℤ)) (names : List ℕ) (t : TrailState) (place : ℕ) (p : Put) (antecedent : List ℤ) (hint : ℤ) (live : List (ℕ × List ℤ)) (old new : List Bool) (rest : List ℤ) → IsTrail t → StandsAt t.puts place p → IsAntecedent clauses names t.puts place p antecedent hint → AreCalled live clauses names t.puts → ((l : ℤ) → has (lits t.puts) l ≡ true → is_marked old l ≡ true → (l ≡ p.lit) ⊎ (is_marked new l ≡ true)) → ((m : ℤ) → has antecedent m ≡ true → (m ≡ p.lit → ⊥) → is_marked new m ≡ true) → Refutes live (lits t.puts) old rest → Refutes live (lits t.puts) new (hint ∷ rest)
-refutes_resolve clauses names t place p antecedent hint live old new rest h there known called keeps marks refutes assumed each within =
+-- a clause whose literals are false by marked ones ends the hints
+pub refutes_false : (live : List (ℕ × List ℤ)) (true_lits : List ℤ) (clause : List ℤ) (id : ℕ) (marks : List Bool) → (IsBothWays true_lits → ⊥) → clause_at live id ≡ Some clause → ((m : ℤ) → has clause m ≡ true → (has true_lits (neg_ℤ m) ≡ true) × (is_marked marks m ≡ true)) → Refutes live true_lits marks (pos id ∷ [])
+refutes_false live true_lits clause id marks one_way called marked assumed each within = (
+  clause,
+  called,
+  inr (inl (λ m inside.
+      let here = marked m inside in
+      false_in true_lits assumed m one_way within (each (neg_ℤ m) here.0 (marked-neg_ℤ marks m ∙ here.1)))),
+)
+
+-- the literal at a place is resolved with its antecedent, whose other literals are false and marked
+pub refutes_resolve : (clauses : List (List ℤ)) (names : List ℕ) (puts : List Put) (place : ℕ) (p : Put) (antecedent : List ℤ) (hint : ℤ) (live : List (ℕ × List ℤ)) (true_lits : List ℤ) (old new : List Bool) (rest : List ℤ) → (IsBothWays true_lits → ⊥) → has true_lits p.lit ≡ true → IsAntecedent clauses names puts place p antecedent hint → AreCalled live clauses names puts → ((l : ℤ) → has true_lits l ≡ true → is_marked old l ≡ true → (l ≡ p.lit) ⊎ (is_marked new l ≡ true)) → ((m : ℤ) → has antecedent m ≡ true → (m ≡ p.lit → ⊥) → (has true_lits (neg_ℤ m) ≡ true) × (is_marked new m ≡ true)) → Refutes live true_lits old rest → Refutes live true_lits new (hint ∷ rest)
+refutes_resolve clauses names puts place p antecedent hint live true_lits old new rest one_way here known called keeps marks refutes assumed each within =
     let names_it = known.called live called in
     let id = names_it.0 in
     let clause = names_it.2 in
@@ -59,7 +70,7 @@ refutes_resolve clauses names t place p antecedent hint live old new rest h ther
             | inr more ↦ or_left (has assumed l) (has (p.lit ∷ []) l) (each l true_l more)
           ])) (λ l k. elim (assumed_more assumed p.lit l k) [
             | inl f ↦ within l f
-            | inr f ↦ (let Q : ℤ → Type 0 = λ x. has (lits t.puts) x ≡ true in subst Q f (true_there t.puts place p there))
+            | inr f ↦ (let Q : ℤ → Type 0 = λ x. has true_lits x ≡ true in subst Q f here)
           ]),
         )),
       )
@@ -70,23 +81,15 @@ refutes_resolve clauses names t place p antecedent hint live old new rest h ther
         let names_it = known.called live called in
         record {
           inside = names_it.4;
-          open_here = (e, false_from_ne_true (has assumed (neg_ℤ p.lit)) (λ f. not_both t p.lit h (true_there t.puts place p there) (within (neg_ℤ p.lit) f)));
-          others = λ m k differs. (let inside = names_it.5 m k differs in
-              let before = true_before t.puts place (neg_ℤ m) (known.false_before m inside differs) in
-              let Q : ℤ → Type 0 = λ x. has (lits t.puts) x ≡ true in
-              let true_m : has (lits t.puts) (neg_ℤ m) ≡ true = subst Q before.3 (true_there t.puts before.0 before.1 before.2) in
-              false_in t assumed m h within (each (neg_ℤ m) true_m (marked-neg_ℤ new m ∙ marks m inside differs)));
+          open_here = (e, false_from_ne_true (has assumed (neg_ℤ p.lit)) (λ f. one_way (p.lit, here, within (neg_ℤ p.lit) f)));
+          others = λ m k differs. (let false_m = marks m (names_it.5 m k differs) differs in
+              false_in true_lits assumed m one_way within (each (neg_ℤ m) false_m.0 (marked-neg_ℤ new m ∙ false_m.1)));
         }
 
 -- it begins with the clause that is false
 pub refutes_conflict : (t : TrailState) (live : List (ℕ × List ℤ)) (conflict : List ℤ) (id : ℕ) (marks : List Bool) → IsTrail t → IsRefutedIn (lits t.puts) conflict → IsCalled live id conflict → ((l : ℤ) → has conflict l ≡ true → is_marked marks l ≡ true) → Refutes live (lits t.puts) marks (pos id ∷ [])
-refutes_conflict t live conflict id marks h false_now called marked assumed each within = (
-  called.0,
-  called.1,
-  inr (inl (λ l k.
-      let here : has conflict l ≡ true = sym (called.2 l) ∙ k in
-      false_in t assumed l h within (each (neg_ℤ l) (false_now l here).1 (marked-neg_ℤ marks l ∙ marked l here)))),
-)
+refutes_conflict t live conflict id marks h false_now called marked =
+    refutes_false live (lits t.puts) called.0 id marks (one_way t h) called.1 (λ m inside. (let here : has conflict m ≡ true = sym (called.2 m) ∙ inside in ((false_now m here).1, marked m here)))
 
 same_lit-neg : (m l : ℤ) → same_lit (neg_ℤ m) l ≡ same_lit m (neg_ℤ l)
 same_lit-neg (pos zero) (pos zero) = refl

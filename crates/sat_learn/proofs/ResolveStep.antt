@@ -10,7 +10,7 @@ use Rattle.sat_trail.specs.declared.clause_id.ClauseId.{ClauseId}
 use Rattle.sat_trail.specs.Trail.{Put, TrailState, IsTrail, lits}
 use Rattle.sat_learn.specs.Resolving.{is_marked, StandsAt, Refutes, Resolves, IsForcedAt, IsAntecedent, AreBelow, IsLastMarked, AreRootsClear, DifferAtRoots, with_marks}
 use Rattle.sat_learn.specs.Tracking.{is_open}
-use Rattle.sat_learn.proofs.Puts.{put_there, true_there, one_place, one_put, same_at, true_before, levels_rise, decision_from, decision_rises, nat_abs-neg_ℤ, true_literal}
+use Rattle.sat_learn.proofs.Puts.{put_there, true_there, one_place, one_put, same_at, true_before, levels_rise, decision_from, decision_rises, nat_abs-neg_ℤ, true_literal, one_way}
 use Rattle.sat_learn.proofs.Refuting.{refutes_resolve}
 use Rattle.sat_learn.proofs.Counting.{count_other}
 use Rattle.sat_learn.proofs.Marking.{open_parts, has_at, false_in_range}
@@ -163,7 +163,7 @@ pub resolves_step : (clauses : List (List ℤ)) (names : List ℕ) (t : TrailSta
 resolves_step clauses names t place p antecedent hint old mid hints more h there known noted more_is live called refutes =
     let turned : reverse more ≡ hint ∷ reverse hints = ap reverse more_is ∙ reverse-append hints (hint ∷ []) in
     let P : List ℤ → Type 0 = λ hs. Refutes live (lits t.puts) (set mid (nat_abs p.lit) false) hs in
-    subst P (sym turned) (refutes_resolve clauses names t place p antecedent hint live old (set mid (nat_abs p.lit) false) (reverse hints) h there known called keeps marks refutes)
+    subst P (sym turned) (refutes_resolve clauses names t.puts place p antecedent hint live (lits t.puts) old (set mid (nat_abs p.lit) false) (reverse hints) (one_way t h) (true_there t.puts place p there) known called keeps marks refutes)
   where
     stays : (l : ℤ) → (nat_abs l ≡ nat_abs p.lit → ⊥) → is_marked (set mid (nat_abs p.lit) false) l ≡ with_marks antecedent old (nat_abs l)
     stays l other = get_or-set_other mid (nat_abs p.lit) (nat_abs l) false false other ∙ noted (nat_abs l)
@@ -177,10 +177,13 @@ resolves_step clauses names t place p antecedent hint old mid hints more h there
           | inr e ↦ inr (stays l e ∙ or_left (get_or old (nat_abs l) false) (list_any (eqb (nat_abs l)) (map nat_abs antecedent)) marked)
         ]
 
-    marks : (m : ℤ) → has antecedent m ≡ true → (m ≡ p.lit → ⊥) → is_marked (set mid (nat_abs p.lit) false) m ≡ true
+    marks : (m : ℤ) → has antecedent m ≡ true → (m ≡ p.lit → ⊥) → (has (lits t.puts) (neg_ℤ m) ≡ true) × (is_marked (set mid (nat_abs p.lit) false) m ≡ true)
     marks m inside differs =
         let before = earlier clauses names t place p antecedent hint m h there known inside differs in
-        stays m before.5 ∙ or_right (get_or old (nat_abs m) false) (list_any (eqb (nat_abs m)) (map nat_abs antecedent)) (any_from antecedent m inside)
+        let Q : ℤ → Type 0 = λ x. has (lits t.puts) x ≡ true in (
+          subst Q before.3 (true_there t.puts before.0 before.1 before.2),
+          stays m before.5 ∙ or_right (get_or old (nat_abs m) false) (list_any (eqb (nat_abs m)) (map nat_abs antecedent)) (any_from antecedent m inside),
+        )
 
 pub resolves_nothing : (clauses : List (List ℤ)) (names : List ℕ) (puts : List Put) (marks : List Bool) (hints : List ℤ) → Resolves clauses names puts marks hints marks hints
 resolves_nothing clauses names puts marks hints live called refutes = refutes

@@ -1,5 +1,5 @@
 -- What a conflict teaches.
-use Rattle.std.specs.Prelude.{◌≡◌, ℕ, ◌<◌, IsTrue, IsFalse, nat_eq, ℤ, neg_ℤ, nat_abs, List, ◌∷◌, map, All}
+use Rattle.std.specs.Prelude.{◌≡◌, ℕ, ◌<◌, IsTrue, IsFalse, nat_eq, ℤ, neg_ℤ, nat_abs, List, ◌∷◌, length, map, All}
 use Rattle.std.specs.List.{IsDistinct}
 use Rattle.cnf_base.specs.Judged.{has}
 use Rattle.cnf_base.specs.Dimacs.{IsLiteral}
@@ -13,11 +13,16 @@ IsFalseUpto level puts l = IsTrue (has (lits (upto level puts)) (neg_ℤ l))
 abbrev pub IsFreeUpto : ℕ → List Put → ℤ → Type 0
 IsFreeUpto level puts l = IsFalse (has (lits (upto level puts)) (neg_ℤ l))
 
--- a clause, the level to go back to, and the hints by which the clause follows
+-- places of literals of level 0
+abbrev pub AreAtRoot : List Put → List ℕ → Type 0
+AreAtRoot puts places = All (λ place. place < length (upto 0 puts)) places
+
+-- a clause, the level to go back to, the hints by which the clause follows, and the places of level 0 that they resolve
 pub record LessonState : Type 0 where
   pub lits : List ℤ
   pub back : ℕ
   pub hints : List ℤ
+  pub roots : List ℕ
 
 -- at the level to go back to all literals of the clause are false but the first, which is false at the present level alone
 pub record IsLesson (t : TrailState) (lesson : LessonState) : Type 0 where
@@ -32,3 +37,4 @@ pub record IsLesson (t : TrailState) (lesson : LessonState) : Type 0 where
   pub others_false : (l : ℤ) → IsTrue (has others l) → IsFalseUpto lesson.back t.puts l
   -- below that level one of them isn't false
   pub back_least : (k : ℕ) → k < lesson.back → (l : ℤ) × IsTrue (has others l) × IsFreeUpto k t.puts l
+  pub at_root : AreAtRoot t.puts lesson.roots

@@ -1,3 +1,4 @@
+pub mod Explaining
 pub mod Lesson
 pub mod Reasons
 pub mod Resolving

@@ -8,6 +8,9 @@ use cnf_base::CnfLit;
 use sat_trail::{ClauseId, Trail};
 use sat_watch::ClauseBook;
 
+/// How deep a walk down the reasons goes, so that it needs little stack.
+pub const DEPTH: u32 = 500;
+
 /// A clause's literals, where one that is forced by a unit clause may be left out, and the hint for the clause.
 #[derive(Clone, Copy, Debug)]
 pub struct Antecedent<'a> {

@@ -4,7 +4,7 @@ ghost use Rattle.std.specs.Prelude.{◌≡◌, ℕ, ℤ, List, ◌≤◌, ◌<�
 ghost use Rattle.cnf_base.specs.Judged.{has};
 ghost use Rattle.lrat_text.specs.Accepted.{Ends};
 ghost use Rattle.sat_trail.specs.Trail.{lits, IsTrail};
-ghost use Rattle.sat_learn.specs.Lesson.{IsLesson};
+ghost use Rattle.sat_learn.specs.Lesson.{AreAtRoot, IsLesson};
 ghost use Rattle.sat_learn.specs.Resolving.{Refutes};
 ghost use Rattle.sat_learn.specs.Tracking.{IsGreatestLevel, IsReduced, IsTaken};
 
@@ -84,10 +84,12 @@ pub fn conclude(
     trail: &Trail,
     marks: &mut [bool],
     analysis: Analysis,
+    roots: Vec<u32>,
     place: u32,
 ) -> Result<Lesson, OutOfMemory>
     requires trail { IsTrail trail.now }
     requires reduced { IsReduced trail.now marks.old analysis.kept.items place }
+    requires roots { AreAtRoot trail.now.puts roots.items }
     ensures lesson { IfOk result (IsLesson trail.now) }
     ensures marks { OnOk result ((v : ℕ) → slice_index_or marks.new v false ≡ false) }
     ensures follows { IfOk result (λ lesson. (live : List (ℕ × List ℤ)) → Refutes live (lits trail.now.puts) marks.old (reverse analysis.hints.items)
@@ -103,5 +105,5 @@ pub fn conclude(
     let first = negated(trail.at(place));
     let taken = take_marked(alloc, marks, &kept, first)?;
     let back = greatest_level(trail, &taken[1..]);
-    Ok(new_lesson(taken, back, hints))
+    Ok(new_lesson(taken, back, hints, roots))
 }

@@ -1,12 +1,14 @@
 //! Learning from a conflict.
 
-ghost use Rattle.std.specs.Prelude.{◌≡◌, [], ◌<◌, ◌≤◌, ◌-◌, ◌^◌, ℕ, ℤ, List, length, map, neg_ℤ, All, IfOk};
+ghost use Rattle.std.specs.Prelude.{◌≡◌, [], ◌<◌, ◌≤◌, ◌-◌, ◌^◌, ℕ, ℤ, List, length, map, neg_ℤ, All, IfOk, IfSome};
 ghost use Rattle.cnf_base.specs.Judged.{IsRefutedIn};
 ghost use Rattle.lrat_text.specs.Accepted.{Ends};
 ghost use Rattle.sat_trail.specs.Trail.{lits, upto};
+ghost use Rattle.sat_learn.specs.Explaining.{IsExplanation};
 ghost use Rattle.sat_learn.specs.Reasons.{AreReasons, IsCalled, AreCalled};
 ghost use Rattle.sat_learn.specs.Lesson.{IsLesson};
 
+use crate::explanation::explain_marked;
 use crate::lesson::Lesson;
 use crate::reduction::Visit;
 use crate::resolution::{analyze, refute_marked};
@@ -129,6 +131,34 @@ impl Learner {
             id as i64,
         ) {
             Ok(hints) => Ok(hints),
+            Err(OutOfMemory) => {
+                self.marks.fill(false);
+                Err(OutOfMemory)
+            }
+        }
+    }
+
+    /// The hints by which the clause of this literal alone follows, which stands at this place, of level 0. None where
+    /// what it rests on goes deeper than 500 clauses.
+    pub fn explain(
+        &mut self,
+        trail: &Trail,
+        book: &ClauseBook,
+        names: &[u64],
+        place: u32,
+    ) -> Result<Option<Hints>, OutOfMemory>
+        requires vars { trail.now.vars ≡ self.old }
+        requires reasons { AreReasons book.now.clauses [] trail.now.puts }
+        requires names { length names.now ≡ length book.now.clauses }
+        requires small_names { All (λ name. name < 2 ^ 62) names.now }
+        requires at_root { place < length (upto 0 trail.now.puts) }
+        ensures vars { self.new ≡ self.old }
+        ensures follows { IfOk result (λ found. IfSome found (IsExplanation book.now.clauses names.now trail.now.puts place)) }
+    {
+        // for what it says of the trail
+        let _ = trail.len();
+        match explain_marked(self.alloc, trail, book, names, &mut self.marks, place) {
+            Ok(found) => Ok(found),
             Err(OutOfMemory) => {
                 self.marks.fill(false);
                 Err(OutOfMemory)

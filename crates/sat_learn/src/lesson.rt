@@ -6,12 +6,13 @@ use cnf_base::CnfLit;
 use lrat_text::Hints;
 use std::marker::Model;
 
-/// A clause, the level to go back to, and the hints by which the clause follows.
+/// A clause, the level to go back to, the hints by which the clause follows, and which literals of level 0 they resolve.
 #[derive(Debug, Drop)]
 pub struct Lesson {
     lits: Vec<CnfLit>,
     back: u32,
     hints: Hints,
+    roots: Vec<u32>,
 }
 
 impl Model for Lesson {
@@ -19,17 +20,18 @@ impl Model for Lesson {
 
     ghost Value = { LessonState };
 
-    ghost view = { λ l. record { lits = l.lits.items; back = l.back; hints = l.hints } };
+    ghost view = { λ l. record { lits = l.lits.items; back = l.back; hints = l.hints; roots = l.roots.items } };
 }
 
 /// The hints come from the last to the first.
-pub fn new_lesson(lits: Vec<CnfLit>, back: u32, hints: Vec<i64>) -> Lesson
-    ensures { result ≡ record { lits = lits.items; back = back; hints = reverse hints.items } }
+pub fn new_lesson(lits: Vec<CnfLit>, back: u32, hints: Vec<i64>, roots: Vec<u32>) -> Lesson
+    ensures { result ≡ record { lits = lits.items; back = back; hints = reverse hints.items; roots = roots.items } }
 {
     Lesson {
         lits,
         back,
         hints: in_order(hints),
+        roots,
     }
 }
 
@@ -53,6 +55,13 @@ impl Lesson {
         ensures { result ≡ self.now.back }
     {
         self.back
+    }
+
+    /// The places of the literals of level 0 that the hints resolve, from the last to the first.
+    pub fn roots(&self) -> &[u32]
+        ensures { result.now ≡ self.now.roots }
+    {
+        self.roots.as_slice()
     }
 
     pub fn into_hints(self) -> Hints

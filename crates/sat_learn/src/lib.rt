@@ -4,6 +4,7 @@
 mod analysis;
 mod antecedent;
 mod conclusion;
+mod explanation;
 mod learner;
 mod lesson;
 mod marks;

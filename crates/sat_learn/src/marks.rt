@@ -1,6 +1,7 @@
 //! Marks on variables.
 
-ghost use Rattle.std.specs.Prelude.{◌≡◌, ℕ, ◌+◌, ◌<◌, ◌≤◌, IsTrue, false, length, nat_abs, All, count_by, slice_index_or};
+ghost use Rattle.std.specs.Prelude.{◌≡◌, ℕ, ◌+◌, ◌<◌, ◌≤◌, IsTrue, false, if◌then◌else◌, nat_eq, map, length, nat_abs, All, count_by, slice_index_or};
+ghost use Rattle.std.specs.List.{list_any};
 ghost use Rattle.sat_trail.specs.Trail.{IsTrail};
 ghost use Rattle.sat_learn.specs.Resolving.{with_marks, AreBelow, IsLastMarked};
 ghost use Rattle.sat_learn.specs.Tracking.{is_open};
@@ -15,6 +16,16 @@ pub fn mark_all(marks: &mut [bool], lits: &[CnfLit])
 {
     for lit in lits {
         marks[lit.var() as usize] = true;
+    }
+}
+
+/// Unmarks the variables of these literals.
+pub fn unmark_all(marks: &mut [bool], lits: &[CnfLit])
+    requires { All (λ l. nat_abs l < length marks.old) lits.now }
+    ensures { (v : ℕ) → slice_index_or marks.new v false ≡ (if list_any (nat_eq v) (map nat_abs lits.now) then false else slice_index_or marks.old v false) }
+{
+    for lit in lits {
+        marks[lit.var() as usize] = false;
     }
 }
 

@@ -7,15 +7,12 @@ ghost use Rattle.sat_learn.specs.Resolving.{is_marked, Resolves, IsExplained};
 ghost use Rattle.sat_learn.specs.Tracking.{IsTracked, IsPoint};
 
 use crate::analysis::{Analysis, level_of_false, note_all};
-use crate::antecedent::find_antecedent;
+use crate::antecedent::{DEPTH, find_antecedent};
 use cnf_base::CnfLit;
 use ketch_base::OutOfMemory;
 use sat_trail::Trail;
 use sat_watch::ClauseBook;
 use std::alloc::Global;
-
-/// How far a walk goes down, so that it needs little stack.
-const DEPTH: u32 = 500;
 
 /// What a walk found of a variable.
 #[derive(Clone, Copy, Debug)]

@@ -5,7 +5,7 @@ ghost use Rattle.cnf_base.specs.Judged.{IsRefutedIn};
 ghost use Rattle.lrat_text.specs.Accepted.{Ends};
 ghost use Rattle.sat_trail.specs.Trail.{lits, upto};
 ghost use Rattle.sat_learn.specs.Reasons.{IsCalled, AreCalled};
-ghost use Rattle.sat_learn.specs.Lesson.{IsLesson};
+ghost use Rattle.sat_learn.specs.Lesson.{AreAtRoot, IsLesson};
 ghost use Rattle.sat_learn.specs.Resolving.{Resolves, IsExplained, AreRootsClear, DifferAtRoots};
 ghost use Rattle.sat_learn.specs.Tracking.{IsTracked};
 
@@ -23,14 +23,15 @@ use sat_trail::Trail;
 use sat_watch::ClauseBook;
 use std::alloc::Global;
 
-/// Resolves the literals of level 0, if one is marked.
+/// Resolves the literals of level 0, if one is marked: their places, from the last to the first.
 fn resolve_any_roots(
+    alloc: Global,
     trail: &Trail,
     book: &ClauseBook,
     names: &[u64],
     marks: &mut [bool],
     analysis: &mut Analysis,
-) -> Result<(), OutOfMemory>
+) -> Result<Vec<u32>, OutOfMemory>
     requires explained { IsExplained book.now.clauses names.now trail.now }
     requires above { 0 < trail.now.level }
     requires tracked { IsTracked trail.now marks.old analysis.old.kept.items analysis.old.rooted analysis.old.open_count }
@@ -38,11 +39,13 @@ fn resolve_any_roots(
     ensures others { OnOk result (DifferAtRoots trail.now.puts marks.old marks.new) }
     ensures kept { analysis.new.kept ≡ analysis.old.kept }
     ensures resolves { OnOk result (Resolves book.now.clauses names.now trail.now.puts marks.old analysis.old.hints.items marks.new analysis.new.hints.items) }
+    ensures roots { IfOk result (λ roots. AreAtRoot trail.now.puts roots.items) }
 {
-    if analysis.rooted {
-        resolve_roots(trail, book, names, marks, &mut analysis.hints)?;
+    if !analysis.rooted {
+        return Ok(Vec::new(alloc));
     }
-    Ok(())
+    let roots = resolve_roots(alloc, trail, book, names, marks, &mut analysis.hints)?;
+    Ok(roots)
 }
 
 /// The lesson of a conflict above level 0, where no variable is marked before or after.
@@ -73,8 +76,8 @@ pub fn analyze(
     note_all(trail, marks, &mut analysis, conflict)?;
     let place = resolve_present(trail, book, names, marks, &mut analysis)?;
     reduce(alloc, trail, book, names, marks, visits, &mut analysis)?;
-    resolve_any_roots(trail, book, names, marks, &mut analysis)?;
-    let lesson = conclude(alloc, trail, marks, analysis, place)?;
+    let roots = resolve_any_roots(alloc, trail, book, names, marks, &mut analysis)?;
+    let lesson = conclude(alloc, trail, marks, analysis, roots, place)?;
     Ok(lesson)
 }
 
@@ -100,6 +103,6 @@ pub fn refute_marked(
     let mut hints = Vec::new(alloc);
     hints.push(hint)?;
     mark_all(marks, conflict);
-    resolve_roots(trail, book, names, marks, &mut hints)?;
+    resolve_roots(alloc, trail, book, names, marks, &mut hints)?;
     Ok(in_order(hints))
 }

@@ -1,7 +1,8 @@
 //! Literals of level 0, which are resolved away.
 
-ghost use Rattle.std.specs.Prelude.{◌≡◌, ◌+◌, ◌<◌, length, OnOk};
+ghost use Rattle.std.specs.Prelude.{◌≡◌, ◌+◌, ◌<◌, length, IfOk, OnOk};
 ghost use Rattle.sat_trail.specs.Trail.{Put};
+ghost use Rattle.sat_learn.specs.Lesson.{AreAtRoot};
 ghost use Rattle.sat_learn.specs.Resolving.{StandsAt, Resolves, IsExplained, AreRootsClear, DifferAtRoots};
 
 use crate::antecedent::antecedent_of;
@@ -9,6 +10,7 @@ use crate::marks::mark_all;
 use ketch_base::OutOfMemory;
 use sat_trail::Trail;
 use sat_watch::ClauseBook;
+use std::alloc::Global;
 
 /// Resolves the literal at this place, which is marked and of level 0.
 fn resolve_root(
@@ -34,26 +36,30 @@ fn resolve_root(
     Ok(())
 }
 
-/// Resolves each literal of level 0 that is marked.
+/// Resolves each literal of level 0 that is marked: their places, from the last to the first.
 pub fn resolve_roots(
+    alloc: Global,
     trail: &Trail,
     book: &ClauseBook,
     names: &[u64],
     marks: &mut [bool],
     hints: &mut Vec<i64>,
-) -> Result<(), OutOfMemory>
+) -> Result<Vec<u32>, OutOfMemory>
     requires explained { IsExplained book.now.clauses names.now trail.now }
     requires room { length marks.old ≡ trail.now.vars + 1 }
     ensures clear { OnOk result (AreRootsClear trail.now.puts marks.new 0) }
     ensures others { OnOk result (DifferAtRoots trail.now.puts marks.old marks.new) }
     ensures resolves { OnOk result (Resolves book.now.clauses names.now trail.now.puts marks.old hints.old.items marks.new hints.new.items) }
+    ensures roots { IfOk result (λ roots. AreAtRoot trail.now.puts roots.items) }
 {
+    let mut roots = Vec::new(alloc);
     let mut place = trail.len_upto(0);
     while place > 0 {
         place -= 1;
         if marks[trail.at(place).var() as usize] {
+            roots.push(place)?;
             resolve_root(trail, book, names, marks, hints, place)?;
         }
     }
-    Ok(())
+    Ok(roots)
 }

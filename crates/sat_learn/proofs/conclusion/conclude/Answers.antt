@@ -81,11 +81,11 @@ returns-clause-lesson c =
     let rest_is : take (length c.deref-2.result.now - 1) (drop 1 c.deref-2.result.now) ≡ taken.others = take_rest c.deref-2.result.now 1 ∙ ap (drop 1) (c.deref-2.ensures.value ∙ taken.form) in
     let back = c.greatest_level-back.result in
     let hints = reverse c.args.analysis.hints.items in
-    let made : List ℤ → LessonState = λ ls. record { lits = ls; back = back; hints = hints } in
+    let made : List ℤ → LessonState = λ ls. record { lits = ls; back = back; hints = hints; roots = c.args.roots.items } in
     let is : c.new_lesson.result ≡ made (first ∷ taken.others) = c.new_lesson.ensures ∙ ap made taken.form in
     let G : List ℤ → Type 0 = λ ls. IsGreatestLevel t ls back in
     let L : LessonState → Type 0 = λ l. IsLesson t l in
-    subst L (sym is) (lesson_from t c.args.marks.now taken.others c.args.place first back hints resolved c.requires.trail (subst G rest_is c.greatest_level-back.ensures))
+    subst L (sym is) (lesson_from t c.args.marks.now taken.others c.args.place first back hints c.args.roots.items resolved c.requires.trail (subst G rest_is c.greatest_level-back.ensures) c.requires.roots)
 
 pub returns-clause-marks : goal.returns-clause-marks
 returns-clause-marks c =
@@ -120,7 +120,7 @@ returns-clause-follows c live refutes =
     let resolved = resolved_from t c.args.marks.now c.take_marked.new.marks kept c.args.place first c.in_ok-taken.taken.items h taken first_is in
     let back = c.greatest_level-back.result in
     let hints = reverse c.args.analysis.hints.items in
-    let made : List ℤ → LessonState = λ ls. record { lits = ls; back = back; hints = hints } in
+    let made : List ℤ → LessonState = λ ls. record { lits = ls; back = back; hints = hints; roots = c.args.roots.items } in
     let is : c.new_lesson.result ≡ made (first ∷ taken.others) = c.new_lesson.ensures ∙ ap made taken.form in
     let E : LessonState → Type 0 = λ l. Ends live (map neg_ℤ l.lits) l.hints in
     subst E (sym is) (lesson_follows t c.args.marks.now taken.others c.args.place first live hints resolved c.requires.trail refutes)

@@ -28,8 +28,8 @@ conclude-requires-clause-reduced c =
     let point : IsPoint t c.resolve_present.new.marks place = record { put = last.put; stands = last.stands; marked = last.marked; at_level = last.at_level } in
     let room : length after ≡ t.vars + 1 = omega (arith, c.requires.room, c.note_all.auto.marks, c.resolve_present.auto.marks, c.reduce.auto.marks, c.resolve_any_roots.auto.marks) in
     let P : List ℤ → Type 0 = λ ls. IsReduced t after ls place in
-    subst P (ap (λ v. v.items) (sym c.in_ok-resolve_any_roots.ensures.kept))
-    (reduced_from t c.reduce.new.marks after a.kept.items a.rooted a.open_count place c.requires.explained.trail c.in_ok-reduce.ensures.tracked (c.in_ok-reduce.ensures.count ∙ c.in_ok-place.ensures.count) (c.in_ok-reduce.ensures.point place point) c.in_ok-resolve_any_roots.ensures.clear c.in_ok-resolve_any_roots.ensures.others room)
+    subst P (ap (λ v. v.items) (sym c.in_ok-roots.ensures.kept))
+    (reduced_from t c.reduce.new.marks after a.kept.items a.rooted a.open_count place c.requires.explained.trail c.in_ok-reduce.ensures.tracked (c.in_ok-reduce.ensures.count ∙ c.in_ok-place.ensures.count) (c.in_ok-reduce.ensures.point place point) c.in_ok-roots.ensures.clear c.in_ok-roots.ensures.others room)
 
 pub returns-clause-follows : goal.returns-clause-follows
 returns-clause-follows c live id hint_is called conflict_called =
@@ -42,5 +42,5 @@ returns-clause-follows c live id hint_is called conflict_called =
     let begun = conflict_refutes t live c.args.conflict.now id c.args.hint c.note_all.new.marks hints c.requires.explained.trail c.requires.false_now conflict_called hint_is pushed marked in
     let present = c.in_ok-place.ensures.resolves live called begun in
     let reduced = c.in_ok-reduce.ensures.resolves live called present in
-    let roots = c.in_ok-resolve_any_roots.ensures.resolves live called reduced in
+    let roots = c.in_ok-roots.ensures.resolves live called reduced in
     c.in_ok-lesson.ensures.follows live roots

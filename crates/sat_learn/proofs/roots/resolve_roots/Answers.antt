@@ -1,6 +1,7 @@
-use Rattle.std.proofs.Common.{◌≡◌, ℕ, ◌+◌, ◌-◌, ◌<◌, false, length, get_or, refl, ap, sym, ◌∙◌, subst, arith, inl}
+use Rattle.std.proofs.Common.{◌≡◌, ℕ, List, ◌+◌, ◌-◌, ◌<◌, false, length, get_or, refl, ap, sym, ◌∙◌, subst, arith, inl}
 use Rattle.sat_trail.specs.Trail.{upto}
 use Rattle.sat_trail.proofs.Climbing.{length-upto-le}
+use Rattle.sat_learn.specs.Lesson.{AreAtRoot}
 use Rattle.sat_learn.specs.Resolving.{is_marked, AreRootsClear}
 use Rattle.sat_learn.proofs.Marking.{literal_at}
 use Rattle.sat_learn.proofs.ResolveStep.{resolves_nothing}
@@ -10,11 +11,13 @@ use Rattle.sat_learn.proofs.roots.resolve_roots.Goals as goal
 pub loop-place-init : goal.loop-place-init
 loop-place-init c =
     let t = c.args.trail.now in
+    let R : List ℕ → Type 0 = λ places. AreAtRoot t.puts places in
     record {
       within = omega (arith, c.len_upto-place.ensures);
       clear = roots_clear_past 0 t.puts t.level c.args.marks.now c.len_upto-place.result c.requires.explained.trail.climbs c.len_upto-place.ensures;
       others = λ v. inl refl;
       resolves = resolves_nothing c.args.book.now.clauses c.args.names.now t.puts c.args.marks.now c.args.hints.now.items;
+      roots = subst R (sym c.new-roots.ensures.items) (λ k d lt. absurd (omega arith));
     }
 
 pub at-requires : goal.at-requires
@@ -50,4 +53,5 @@ loop-place-preserved c =
       clear = roots_clear_step t.puts c.loop-place.marks (c.loop-place.place - 1) c.at.result c.at.ensures unmarked (subst C same before.clear);
       others = before.others;
       resolves = before.resolves;
+      roots = before.roots;
     }

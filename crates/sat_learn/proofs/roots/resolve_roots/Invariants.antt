@@ -1,5 +1,6 @@
 use Rattle.std.proofs.Common.{◌≤◌, length}
 use Rattle.sat_trail.specs.Trail.{upto}
+use Rattle.sat_learn.specs.Lesson.{AreAtRoot}
 use Rattle.sat_learn.specs.Resolving.{AreRootsClear, DifferAtRoots, Resolves}
 use Rattle.sat_learn.proofs.roots.resolve_roots.Given as goal
 
@@ -11,6 +12,7 @@ invariant-loop-place l =
       clear : AreRootsClear l.trail.puts l.marks l.place;
       others : DifferAtRoots l.trail.puts l.initial.marks l.marks;
       resolves : Resolves l.book.clauses l.names l.trail.puts l.initial.marks l.initial.hints.items l.marks l.hints.items;
+      roots : AreAtRoot l.trail.puts l.roots.items;
     }
 
 abbrev pub decreases-loop-place : goal.decreases-loop-place

@@ -1,4 +1,4 @@
-use Rattle.std.proofs.Common.{◌≡◌, ◌<◌, ◌^◌, ◌++◌, ◌∷◌, [], Some, List, refl, ap, sym, ◌∙◌, subst, arith}
+use Rattle.std.proofs.Common.{◌≡◌, ◌<◌, ◌^◌, ◌∷◌, [], Some, sym, subst, arith}
 use Rattle.sat_trail.specs.declared.clause_id.ClauseId.TheVariants as ids
 use Rattle.sat_trail.specs.Trail.{Put, TrailState}
 use Rattle.sat_watch.specs.Ready.{IsReady}

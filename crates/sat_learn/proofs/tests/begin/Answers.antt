@@ -1,4 +1,4 @@
-use Rattle.std.proofs.Common.{◌≡◌, [], List, refl, sym, subst, arith}
+use Rattle.std.proofs.Common.{[], refl, sym, subst, arith}
 use Rattle.sat_trail.specs.Trail.{TrailState}
 use Rattle.sat_watch.specs.Ready.{IsReady}
 use Rattle.sat_learn.specs.Reasons.{AreReasons}
