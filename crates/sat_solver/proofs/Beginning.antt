@@ -18,8 +18,8 @@ use Rattle.sat_solver.proofs.Passing.{first_passed}
 use Rattle.sat_solver.proofs.Recording.{IsLedger-none}
 use Rattle.sat_solver.proofs.Standing.{loaded_whole}
 
-pub begun : (formula : CnfFormula) (done : List (List ℤ)) (s : Search) (vars : ℕ) → length formula.clauses < 2 ^ 60 → vars ≡ formula.vars → s.steps ≡ [] → s.queue ≡ range_with_len 1 vars → s.phases ≡ vars → s.learner ≡ vars → IsSound formula.vars (live formula []) done s.names.items s.book s.trail → IsSearch formula done s
-begun formula done s vars few same none queue phases learner sound =
+pub begun : (formula : CnfFormula) (done : List (List ℤ)) (s : Search) (vars : ℕ) → length formula.clauses < 2 ^ 60 → vars ≡ formula.vars → s.steps ≡ [] → s.queue ≡ range_with_len 1 vars → s.phases ≡ vars → s.learner ≡ vars → s.weighed ≡ vars → s.lessons ≡ 0 → IsSound formula.vars (live formula []) done s.names.items s.book s.trail → IsSearch formula done s
+begun formula done s vars few same none queue phases learner weighed lessons sound =
     let L : List LratStep → Type 0 = λ steps. IsLedger formula steps in
     let S : List LratStep → Type 0 = λ steps. IsSound formula.vars (live formula steps) done s.names.items s.book s.trail in
     let empty : length s.steps ≡ 0 = ap length none in
@@ -31,6 +31,8 @@ begun formula done s vars few same none queue phases learner sound =
       queue_vars = ap length queue ∙ length-range_with_len 1 vars ∙ same;
       phases_vars = phases ∙ same;
       learner_vars = learner ∙ same;
+      weighed_vars = weighed ∙ same;
+      few_lessons = omega (arith, lessons);
     }
 
 ready_loaded : (formula : CnfFormula) (count : ℕ) (names : List ℕ) (b : BookState) (t : TrailState) → IsLoaded formula count names b t → IsReady b t
@@ -43,13 +45,13 @@ ready_loaded formula count names b t h =
       none_unit = λ k lt. absurd (omega arith);
     }
 
-pub first_turn : (formula : CnfFormula) (lemmas : ℕ) (s : Search) (vars : ℕ) → length formula.clauses < 2 ^ 60 → lemmas ≤ 2 ^ 60 → vars ≡ formula.vars → s.steps ≡ [] → s.queue ≡ range_with_len 1 vars → s.from ≡ slice_get s.queue 0 → s.phases ≡ vars → s.learner ≡ vars → IsLoaded formula (length formula.clauses) s.names.items s.book s.trail → IsTurn formula lemmas s
-first_turn formula lemmas s vars few few_lemmas same none queue from phases learner loaded =
+pub first_turn : (formula : CnfFormula) (lemmas : ℕ) (s : Search) (vars : ℕ) → length formula.clauses < 2 ^ 60 → lemmas ≤ 2 ^ 60 → vars ≡ formula.vars → s.steps ≡ [] → s.queue ≡ range_with_len 1 vars → s.from ≡ slice_get s.queue 0 → s.phases ≡ vars → s.learner ≡ vars → s.weighed ≡ vars → s.lessons ≡ 0 → IsLoaded formula (length formula.clauses) s.names.items s.book s.trail → IsTurn formula lemmas s
+first_turn formula lemmas s vars few few_lemmas same none queue from phases learner weighed lessons loaded =
     let D : List LratStep → Type 0 = λ steps. IsSearch formula (earlier formula steps) s in
     let P : Option ℕ → Type 0 = λ at. IsPassed s.queue s.trail.puts at in
     let empty : length s.steps ≡ 0 = ap length none in
     record {
-      search = subst D (sym none) (begun formula (earlier formula []) s vars few same none queue phases learner (loaded_whole formula s.names.items s.book s.trail loaded));
+      search = subst D (sym none) (begun formula (earlier formula []) s vars few same none queue phases learner weighed lessons (loaded_whole formula s.names.items s.book s.trail loaded));
       ready = ready_loaded formula (length formula.clauses) s.names.items s.book s.trail loaded;
       passed = subst P (sym from) (first_passed s.queue s.trail.puts);
       within = omega arith;

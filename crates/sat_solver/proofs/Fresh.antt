@@ -7,12 +7,14 @@ use Rattle.cnf_base.specs.Judged.{same_lit, has, IsFalseIn, IsRefutedIn, IsUnitI
 use Rattle.cnf_base.proofs.Literals.{same_lit-true, has-head}
 use Rattle.lrat_text.specs.Accepted.{IsBothWays}
 use Rattle.lrat_text.specs.Spent.{ContainsAll, IsLemma}
+use Rattle.sat_trail.specs.declared.clause_id.ClauseId.TheVariants as ids
 use Rattle.sat_trail.specs.Trail.{TrailState, lits, upto, IsTrail}
 use Rattle.sat_trail.proofs.Consistent.{true_once, false_once, has-upto, has-upto_more}
 use Rattle.sat_watch.specs.Book.{BookState}
 use Rattle.sat_watch.specs.Ready.{IsReady}
 use Rattle.sat_learn.specs.Lesson.{LessonState, IsLesson}
 use Rattle.sat_solver.specs.Sound.{IsCovered, IsSound}
+use Rattle.sat_solver.proofs.Rooted.{root_true}
 
 -- each literal of a lesson is false
 lesson_false : (t : TrailState) (lesson : LessonState) → IsLesson t lesson → (l : ℤ) → has lesson.lits l ≡ true → has (lits t.puts) (neg_ℤ l) ≡ true
@@ -71,13 +73,13 @@ held_apart b t lesson held ready trail h inside all =
     ]
 
 -- no clause that is covered has all its literals in the lesson
-covered_apart : (b : BookState) (t : TrailState) (lesson : LessonState) (clause : List ℤ) → IsReady b t → IsTrail t → IsLesson t lesson → IsCovered b.clauses (lits (upto 0 t.puts)) clause → ContainsAll lesson.lits clause → ⊥
+covered_apart : (b : BookState) (t : TrailState) (lesson : LessonState) (clause : List ℤ) → IsReady b t → IsTrail t → IsLesson t lesson → IsCovered b.clauses t.puts clause → ContainsAll lesson.lits clause → ⊥
 covered_apart b t lesson clause ready trail h (inl both) all =
     lesson_plain t lesson trail h (both.0, all both.0 both.1, all (neg_ℤ both.0) both.2)
 covered_apart b t lesson clause ready trail h (inr (inl unit)) all =
     let l = unit.0 in
-    let false_here = lesson_false t lesson h l (all l (unit.1 l ∙ has-head l [])) in
-    both_ways (has (lits t.puts) l) (false_once t trail l false_here) (has-upto 0 t.puts l unit.2)
+    let false_here = lesson_false t lesson h l (all l (unit.2 l ∙ has-head l [])) in
+    both_ways (has (lits t.puts) l) (false_once t trail l false_here) (has-upto 0 t.puts l (root_true t.puts l (ids.Unit unit.1) unit.3))
 covered_apart b t lesson clause ready trail h (inr (inr held)) all =
     held_apart b t lesson held.0 ready trail h held.1 (λ l l_in. all l (held.2 l ∙ l_in))
 

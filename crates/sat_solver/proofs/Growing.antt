@@ -1,11 +1,11 @@
 -- What stays where the book, the names, the trail or the proof gets more.
-use Rattle.std.proofs.Common.{◌≡◌, ℕ, zero, suc, ◌+◌, ◌<◌, ◌⊎◌, IsTrue, eqb, ℤ, Option, Some, None, List, [], ◌∷◌, ◌++◌, length, get_or, refl, ap, sym, ◌∙◌, subst, arith, inl, inr}
+use Rattle.std.proofs.Common.{◌≡◌, ℕ, zero, suc, ◌+◌, ◌<◌, ◌⊎◌, eqb, ℤ, Option, Some, None, List, [], ◌∷◌, ◌++◌, length, get_or, refl, ap, sym, ◌∙◌, subst, arith, inl, inr}
 use Rattle.std.specs.List.{slice_get, enumerate_from, Contains, AllByRecursion}
 use Rattle.std.proofs.lemmas.Bool.{cases_Bool, eq-eqb, ne_eqb}
 use Rattle.std.proofs.lemmas.List.{append-nil, append_assoc}
 use Rattle.std.proofs.lemmas.List.Elements.{All-from_recursion, All-contains, Contains-append_left, Contains-append_cases}
 use Rattle.std.proofs.lemmas.Option.{same_Some}
-use Rattle.cnf_base.specs.Judged.{has, IsUnitIn}
+use Rattle.cnf_base.specs.Judged.{IsUnitIn}
 use Rattle.lrat_text.specs.Standing.{clause_at}
 use Rattle.sat_trail.specs.declared.clause_id.ClauseId.{ClauseId}
 use Rattle.sat_trail.specs.declared.clause_id.ClauseId.TheVariants as ids
@@ -13,6 +13,7 @@ use Rattle.sat_trail.specs.Trail.{Put, lits}
 use Rattle.sat_watch.specs.Book.{IsClauseOf, Follow}
 use Rattle.sat_learn.specs.Reasons.{IsReason, AreReasons, IsCalled, AreCalled}
 use Rattle.sat_solver.specs.Sound.{IsCovered}
+use Rattle.sat_solver.proofs.Rooted.{KeepsUnits, units_same}
 
 -- ---- lists
 
@@ -185,15 +186,17 @@ AreCalled-unit live cs names ps p id h is called =
 
 -- ---- what is covered
 
-pub IsCovered-more : (cs more : List (List ℤ)) (roots roots' clause : List ℤ) → ((l : ℤ) → IsTrue (has roots l) → IsTrue (has roots' l)) → IsCovered cs roots clause → IsCovered (cs ++ more) roots' clause
-IsCovered-more cs more roots roots' clause grows (inl both) = inl both
-IsCovered-more cs more roots roots' clause grows (inr (inl unit)) = inr (inl (unit.0, unit.1, grows unit.0 unit.2))
-IsCovered-more cs more roots roots' clause grows (inr (inr held)) = inr (inr (held.0, Contains-append_left cs more held.0 held.1, held.2))
+pub IsCovered-more : (cs more : List (List ℤ)) (puts puts' : List Put) (clause : List ℤ) → KeepsUnits puts puts' → IsCovered cs puts clause → IsCovered (cs ++ more) puts' clause
+IsCovered-more cs more puts puts' clause keeps (inl both) = inl both
+IsCovered-more cs more puts puts' clause keeps (inr (inl unit)) =
+    let stands = keeps unit.0 unit.1 unit.3 in
+    inr (inl (unit.0, stands.0, unit.2, stands.1))
+IsCovered-more cs more puts puts' clause keeps (inr (inr held)) = inr (inr (held.0, Contains-append_left cs more held.0 held.1, held.2))
 
-pub IsCovered-more_clauses : (cs more : List (List ℤ)) (roots clause : List ℤ) → IsCovered cs roots clause → IsCovered (cs ++ more) roots clause
-IsCovered-more_clauses cs more roots clause h = IsCovered-more cs more roots roots clause (λ l k. k) h
+pub IsCovered-more_clauses : (cs more : List (List ℤ)) (puts : List Put) (clause : List ℤ) → IsCovered cs puts clause → IsCovered (cs ++ more) puts clause
+IsCovered-more_clauses cs more puts clause h = IsCovered-more cs more puts puts clause (units_same puts) h
 
-pub IsCovered-more_roots : (cs : List (List ℤ)) (roots roots' clause : List ℤ) → ((l : ℤ) → IsTrue (has roots l) → IsTrue (has roots' l)) → IsCovered cs roots clause → IsCovered cs roots' clause
-IsCovered-more_roots cs roots roots' clause grows h =
-    let P : List (List ℤ) → Type 0 = λ ls. IsCovered ls roots' clause in
-    subst P (append-nil cs) (IsCovered-more cs [] roots roots' clause grows h)
+pub IsCovered-more_puts : (cs : List (List ℤ)) (puts puts' : List Put) (clause : List ℤ) → KeepsUnits puts puts' → IsCovered cs puts clause → IsCovered cs puts' clause
+IsCovered-more_puts cs puts puts' clause keeps h =
+    let P : List (List ℤ) → Type 0 = λ ls. IsCovered ls puts' clause in
+    subst P (append-nil cs) (IsCovered-more cs [] puts puts' clause keeps h)

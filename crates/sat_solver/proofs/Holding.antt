@@ -1,31 +1,27 @@
 -- A clause that is held: what stands, and what propagation asks for.
 use Rattle.std.proofs.Common.{◌≡◌, ◌≢◌, ℕ, ◌<◌, ◌^◌, true, false, ℤ, neg_ℤ, Some, List, [], ◌∷◌, ◌++◌, length, refl, ap, sym, ◌∙◌, subst, arith, inl, inr}
-use Rattle.std.proofs.lemmas.Bool.{or_right, both_ways}
+use Rattle.std.proofs.lemmas.Bool.{both_ways}
 use Rattle.std.proofs.lemmas.List.Elements.{All-push, Contains-push}
 use Rattle.cnf_base.specs.Judged.{has, IsRefutedIn, IsUnitIn}
-use Rattle.cnf_base.proofs.Literals.{has-head, has-append}
 use Rattle.sat_trail.specs.declared.clause_id.ClauseId.TheVariants as ids
 use Rattle.sat_trail.specs.Trail.{Put, TrailState, lits, upto, IsTrail}
-use Rattle.sat_trail.proofs.Climbing.{Climbs-push, upto-all}
 use Rattle.sat_watch.specs.Book.{BookState}
 use Rattle.sat_watch.specs.Ready.{IsReady}
 use Rattle.sat_watch.proofs.Readiness.{followed_more}
-use Rattle.sat_watch.proofs.Spreading.{lits-append}
 use Rattle.sat_learn.specs.Reasons.{IsCalled}
 use Rattle.sat_solver.specs.Keeping.{Holds}
 use Rattle.sat_solver.specs.Sound.{IsSound}
+use Rattle.sat_solver.proofs.Rooted.{unit_pushed}
 use Rattle.sat_solver.proofs.Sounding.{sound_with_done, sound_with_clause, sound_with_unit}
 
 -- ---- what stands
 
 -- a unit clause, put at level 0
-sound_unit : (vars : ℕ) (live : List (ℕ × List ℤ)) (done : List (List ℤ)) (names : List ℕ) (b : BookState) (t : TrailState) (id : ℕ) (l : ℤ) → IsSound vars live done names b t → IsTrail t → t.level ≡ 0 → id < 2 ^ 62 → IsCalled live id (l ∷ []) → IsSound vars live (done ++ (l ∷ []) ∷ []) names b (record { vars = t.vars; puts = t.puts ++ record { lit = l; level = t.level; reason = Some (ids.Unit id) } ∷ []; level = t.level; low = t.low })
-sound_unit vars live done names b t id l s trail root small called =
+sound_unit : (vars : ℕ) (live : List (ℕ × List ℤ)) (done : List (List ℤ)) (names : List ℕ) (b : BookState) (t : TrailState) (id : ℕ) (l : ℤ) → IsSound vars live done names b t → t.level ≡ 0 → id < 2 ^ 62 → IsCalled live id (l ∷ []) → IsSound vars live (done ++ (l ∷ []) ∷ []) names b (record { vars = t.vars; puts = t.puts ++ record { lit = l; level = t.level; reason = Some (ids.Unit id) } ∷ []; level = t.level; low = t.low })
+sound_unit vars live done names b t id l s root small called =
     let p : Put = record { lit = l; level = t.level; reason = Some (ids.Unit id) } in
     let new : TrailState = record { vars = t.vars; puts = t.puts ++ p ∷ []; level = t.level; low = t.low } in
-    let whole : upto 0 new.puts ≡ new.puts = upto-all 0 0 new.puts t.level (Climbs-push 0 t.puts t.level p trail.climbs refl) (omega arith) in
-    let here : has (lits (upto 0 new.puts)) l ≡ true = ap (λ ps. has (lits ps) l) whole ∙ ap (λ ls. has ls l) (lits-append t.puts (p ∷ [])) ∙ has-append (lits t.puts) (l ∷ []) l ∙ or_right (has (lits t.puts) l) (has (l ∷ []) l) (has-head l []) in
-    sound_with_done vars live done names b new (l ∷ []) (sound_with_unit vars live done names b t l id s called small) (inr (inl (l, (λ x. refl), here)))
+    sound_with_done vars live done names b new (l ∷ []) (sound_with_unit vars live done names b t l id s called small) (inr (inl (l, id, (λ x. refl), unit_pushed t.puts l id t.level root)))
 
 -- a clause of two literals or more, at the end of the book
 sound_clause : (vars : ℕ) (live : List (ℕ × List ℤ)) (done : List (List ℤ)) (names : List ℕ) (b : BookState) (t : TrailState) (id : ℕ) (clause : List ℤ) → IsSound vars live done names b t → id < 2 ^ 62 → IsCalled live id clause → IsSound vars live (done ++ clause ∷ []) (names ++ id ∷ []) (record { vars = b.vars; clauses = b.clauses ++ clause ∷ []; seen = b.seen }) t
@@ -38,7 +34,7 @@ sound_held vars live done names names' b b' t t' id lemma s trail root small cal
     let l = h.0 in
     let P : List ℤ → BookState → TrailState → List ℕ → Type 0 = λ c x y ns. IsSound vars live (done ++ c ∷ []) ns x y in
     let C : List ℤ → Type 0 = λ c. IsCalled live id c in
-    let made = sound_unit vars live done names b t id l s trail (root (ap length h.1)) small (subst C h.1 called) in
+    let made = sound_unit vars live done names b t id l s (root (ap length h.1)) small (subst C h.1 called) in
     let put : TrailState = record { vars = t.vars; puts = t.puts ++ record { lit = l; level = t.level; reason = Some (ids.Unit id) } ∷ []; level = t.level; low = t.low } in
     subst (λ c. P c b' t' names') (sym h.1) (subst (λ x. P (l ∷ []) x t' names') (sym h.3) (subst (λ y. P (l ∷ []) b y names') (sym h.2) (subst (λ ns. P (l ∷ []) b put ns) (sym h.4) made)))
 sound_held vars live done names names' b b' t t' id lemma s trail root small called (inr h) =

@@ -1,13 +1,16 @@
 -- A search that keeps a lesson.
-use Rattle.std.proofs.Common.{◌≡◌, ℕ, ◌+◌, ◌<◌, ◌≤◌, ◌^◌, ℤ, nat_abs, Some, List, [], ◌∷◌, ◌++◌, length, min, refl, sym, subst, arith}
+use Rattle.std.proofs.Common.{◌≡◌, ℕ, ◌+◌, ◌<◌, ◌≤◌, ◌^◌, ℤ, nat_abs, leb, Some, List, [], ◌∷◌, ◌++◌, length, min, refl, ap, sym, ◌∙◌, subst, arith, inl, inr}
 use Rattle.std.specs.List.{All, enumerate_from}
-use Rattle.std.proofs.lemmas.List.Elements.{All-weaker}
+use Rattle.std.proofs.lemmas.List.{append-nil}
+use Rattle.std.proofs.lemmas.List.Elements.{All-weaker, filter-append}
 use Rattle.cnf_base.specs.Dimacs.{IsLiteral}
 use Rattle.cnf_base.specs.Meaning.{CnfFormula, IsWithin}
 use Rattle.lrat_text.specs.declared.proof.LratStep.{LratStep}
 use Rattle.lrat_text.specs.declared.proof.LratStep.TheVariants.{Add}
 use Rattle.lrat_text.specs.Standing.{clause_at}
-use Rattle.sat_trail.specs.Trail.{TrailState, upto, IsTrail}
+use Rattle.sat_trail.specs.declared.clause_id.ClauseId.TheVariants as ids
+use Rattle.sat_trail.specs.Trail.{Put, TrailState, upto, IsTrail}
+use Rattle.sat_trail.proofs.Climbing.{upto-upto}
 use Rattle.sat_watch.specs.Book.{BookState}
 use Rattle.sat_learn.specs.Lesson.{LessonState, IsLesson}
 use Rattle.sat_learn.specs.Reasons.{IsCalled}
@@ -22,7 +25,7 @@ use Rattle.sat_solver.proofs.Standing.{sound_back, sound_more_live}
 use Rattle.sat_solver.proofs.Recording.{earlier-push, length-earlier, live-push, IsLedger-push}
 
 -- the clause of the newest step lives under its id
-newest_called : (formula : CnfFormula) (steps : List LratStep) (id : ℕ) (clause hints : List ℤ) → id ≡ length formula.clauses + length steps + 1 → IsCalled (live formula (steps ++ Add id clause hints ∷ [])) id clause
+pub newest_called : (formula : CnfFormula) (steps : List LratStep) (id : ℕ) (clause hints : List ℤ) → id ≡ length formula.clauses + length steps + 1 → IsCalled (live formula (steps ++ Add id clause hints ∷ [])) id clause
 newest_called formula steps id clause hints is =
     let known = earlier formula steps in
     let P : List (List ℤ) → Type 0 = λ cs. clause_at (enumerate_from 1 cs) id ≡ Some clause in
@@ -48,3 +51,20 @@ ledger_kept formula steps t lesson id ledger taught same is =
     let Q : ℕ → Type 0 = λ n. IsWithin n lesson.lits in
     let within = All-weaker (IsLiteral t.vars) (λ l. nat_abs l ≤ t.vars) (λ l k. k.variable) lesson.lits (subst P (sym h.form) h.in_range) in
     IsLedger-push formula steps id lesson.lits lesson.hints ledger is taught.follows taught.new_lemma (subst Q same within) taught.earned
+
+-- ---- level 0
+
+puts_held : (lemma : List ℤ) (id : ℕ) (b b' : BookState) (t t' : TrailState) (names names' : List ℕ) → Holds lemma id b t names b' t' names' → (more : List Put) × (t'.puts ≡ t.puts ++ more)
+puts_held lemma id b b' t t' names names' (inl h) =
+    (record { lit = h.0; level = t.level; reason = Some (ids.Unit id) } ∷ [], ap (λ (x : TrailState). x.puts) h.2)
+puts_held lemma id b b' t t' names names' (inr h) = ([], ap (λ (x : TrailState). x.puts) h.1 ∙ sym (append-nil t.puts))
+
+-- what stands at level 0 stays there first
+pub roots_kept : (lemma : List ℤ) (level id : ℕ) (b b' : BookState) (t t' : TrailState) (names names' : List ℕ) → Holds lemma id b (back_at level t) names b' t' names' → (more : List Put) × (upto 0 t'.puts ≡ upto 0 t.puts ++ more)
+roots_kept lemma level id b b' t t' names names' holds =
+    let held = puts_held lemma id b b' (back_at level t) t' names names' holds in (
+      upto 0 held.0,
+      ap (upto 0) held.1
+          ∙ filter-append (λ (p : Put). leb p.level 0) (upto level t.puts) held.0
+          ∙ ap (λ ps. ps ++ upto 0 held.0) (upto-upto 0 level t.puts (omega arith)),
+    )

@@ -7,9 +7,13 @@ pub mod Growing
 pub mod Holding
 pub mod Kept
 pub mod Lessons
+pub mod Named
 pub mod Passing
 pub mod Recording
+pub mod Rested
+pub mod Rooted
 pub mod Satisfying
 pub mod Taking
+pub mod Undecided
 pub mod Sounding
 pub mod Standing

@@ -10,9 +10,7 @@ use Rattle.sat_trail.specs.Trail.{Put, put_of}
 use Rattle.sat_queue.specs.Order.{IsOrder, from_on, is_unassigned}
 use Rattle.sat_queue.proofs.Ringing.{var_stands}
 use Rattle.sat_solver.specs.Deciding.{before, AreAssigned, IsPassed}
-
-contains_head : (x : ℕ) (xs : List ℕ) → Contains (x ∷ xs) x
-contains_head x xs = (0, grind arith, refl)
+use Rattle.sat_solver.proofs.Rooted.{contains_head}
 
 -- a variable that is found, and all before it are assigned
 record Found (puts : List Put) (xs : List ℕ) (w : ℕ) : Type 0 where

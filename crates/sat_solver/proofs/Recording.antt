@@ -98,9 +98,10 @@ IsRefutation-end formula lemmas steps id hints ledger le is ends =
       within = omega (arith, lemma_count-end steps id hints);
     }
 
-pub IsSpending-end : (formula : CnfFormula) (lemmas : ℕ) (steps : List LratStep) → IsLedger formula steps → length steps ≡ lemmas → IsSpending formula lemmas steps
-IsSpending-end formula lemmas steps ledger is =
+pub IsSpending-end : (formula : CnfFormula) (lemmas : ℕ) (steps : List LratStep) → IsLedger formula steps → length steps ≡ lemmas → ((hints : List ℤ) → ¬ Ends (live formula steps) [] hints) → IsSpending formula lemmas steps
+IsSpending-end formula lemmas steps ledger is undecided =
     record {
       spent = record { count = is; spent = ledger.spent };
       earned = ledger.earned;
+      undecided = λ hints ends. (let P : Standing → Type 0 = λ s. Ends s.live [] hints in undecided hints (subst P ledger.stands ends));
     }

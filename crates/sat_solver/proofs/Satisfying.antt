@@ -7,17 +7,19 @@ use Rattle.cnf_base.specs.Dimacs.{IsLiteral}
 use Rattle.cnf_base.specs.Judged.{same_lit, has, IsRefutedIn}
 use Rattle.cnf_base.specs.Meaning.{lit_true, clause_true, Satisfies}
 use Rattle.cnf_base.proofs.Literals.{same_lit-true, same_lit-itself, list_any-found, list_any-none}
-use Rattle.sat_trail.specs.Trail.{Put, TrailState, lits, upto, IsTrail}
+use Rattle.sat_trail.specs.declared.clause_id.ClauseId.TheVariants as ids
+use Rattle.sat_trail.specs.Trail.{Put, TrailState, lits, IsTrail}
 use Rattle.sat_trail.proofs.Consistent.{false_once, has-upto}
 use Rattle.sat_trail.proofs.Valuing.{touches, touches-is}
 use Rattle.sat_queue.specs.Order.{is_unassigned}
 use Rattle.sat_watch.specs.Book.{BookState, IsBookClause, NoneFalse}
 use Rattle.sat_solver.specs.Answer.{value_of}
 use Rattle.sat_solver.specs.Sound.{IsCovered, IsSound}
+use Rattle.sat_solver.proofs.Rooted.{root_true}
 
 -- ---- literals of a trail
 
-literal_in : (vars : ℕ) (ls : List ℤ) (l : ℤ) → AllByRecursion (IsLiteral vars) ls → has ls l ≡ true → IsLiteral vars l
+pub literal_in : (vars : ℕ) (ls : List ℤ) (l : ℤ) → AllByRecursion (IsLiteral vars) ls → has ls l ≡ true → IsLiteral vars l
 literal_in vars [] l h k = cc
 literal_in vars (m ∷ ms) l h k =
     elim (or_cases (same_lit m l) (has ms l) k) [
@@ -102,14 +104,14 @@ true_there vars t bits c h in_range not_false =
           (unmet, false_literal vars t bits l h (literal_in vars c l in_range inside) unmet)))
     ]
 
-covered_true : (vars : ℕ) (b : BookState) (t : TrailState) (bits : List Bool) (clause : List ℤ) → AreValuesOf vars t bits → All (IsBookClause vars) b.clauses → NoneFalse b.clauses (lits t.puts) → IsCovered b.clauses (lits (upto 0 t.puts)) clause → clause_true (value_of bits) clause ≡ true
+covered_true : (vars : ℕ) (b : BookState) (t : TrailState) (bits : List Bool) (clause : List ℤ) → AreValuesOf vars t bits → All (IsBookClause vars) b.clauses → NoneFalse b.clauses (lits t.puts) → IsCovered b.clauses t.puts clause → clause_true (value_of bits) clause ≡ true
 covered_true vars b t bits clause h book none_false (inl both) = both_ways_true (value_of bits) clause both.0 both.1 both.2
 covered_true vars b t bits clause h book none_false (inr (inl unit)) =
     let l = unit.0 in
-    let on_trail = has-upto 0 t.puts l unit.2 in
+    let on_trail = has-upto 0 t.puts l (root_true t.puts l (ids.Unit unit.1) unit.3) in
     let P : ℕ → Type 0 = λ n. All (IsLiteral n) (lits t.puts) in
     let in_range = literal_in vars (lits t.puts) l (recursion_from_All (IsLiteral vars) (lits t.puts) (subst P h.trail_vars h.trail.in_range)) on_trail in
-    clause_true_at (value_of bits) clause l (unit.1 l ∙ or_left (same_lit l l) false (same_lit-itself l)) (literal_true vars t bits l h in_range on_trail)
+    clause_true_at (value_of bits) clause l (unit.2 l ∙ or_left (same_lit l l) false (same_lit-itself l)) (literal_true vars t bits l h in_range on_trail)
 covered_true vars b t bits clause h book none_false (inr (inr held)) =
     let c = held.0 in
     let B : List ℤ → Type 0 = λ d. IsBookClause vars d in

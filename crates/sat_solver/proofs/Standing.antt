@@ -1,18 +1,14 @@
 -- What a search keeps through the calls of a turn: loading, propagation, decisions, going back, and the end with a model.
-use Rattle.std.proofs.Common.{◌≡◌, ℕ, ◌+◌, ◌-◌, ◌<◌, ◌≤◌, Bool, true, false, leb, ℤ, pos, Option, None, List, [], ◌∷◌, ◌++◌, length, get_or, take, drop, map, refl, ap, sym, ◌∙◌, subst, arith}
+use Rattle.std.proofs.Common.{◌≡◌, ℕ, ◌+◌, ◌-◌, ◌<◌, ◌≤◌, Bool, false, ℤ, pos, Option, None, List, [], ◌∷◌, ◌++◌, length, get_or, take, drop, map, refl, ap, sym, ◌∙◌, subst, arith}
 use Rattle.std.specs.List.{enumerate_from, All}
-use Rattle.std.proofs.lemmas.Bool.{or_left}
 use Rattle.std.proofs.lemmas.List.{append-nil, take-append-drop, take_all}
-use Rattle.std.proofs.lemmas.List.Elements.{filter-append}
 use Rattle.cnf_base.specs.Judged.{has}
 use Rattle.cnf_base.specs.Meaning.{CnfFormula, Satisfies}
-use Rattle.cnf_base.proofs.Literals.{has-append}
 use Rattle.lrat_text.specs.declared.proof.LratStep.{LratStep}
 use Rattle.lrat_text.specs.Standing.{clause_at}
 use Rattle.sat_trail.specs.Trail.{Put, TrailState, lits, upto, IsTrail}
-use Rattle.sat_trail.proofs.Climbing.{upto-take, upto-upto}
+use Rattle.sat_trail.proofs.Climbing.{upto-take}
 use Rattle.sat_watch.specs.Book.{BookState, IsBookClause, NoneFalse, Spreads, marks}
-use Rattle.sat_watch.proofs.Spreading.{lits-append}
 use Rattle.sat_learn.specs.Reasons.{AreReasons, IsCalled, AreCalled}
 use Rattle.sat_solver.specs.Answer.{value_of, IsModel}
 use Rattle.sat_solver.specs.Deciding.{IsPassed}
@@ -20,18 +16,12 @@ use Rattle.sat_solver.specs.Ledger.{lits_of, earlier, live}
 use Rattle.sat_solver.specs.Loading.{IsLoaded, IsRefutedAt}
 use Rattle.sat_solver.specs.Turning.{AllAssigned}
 use Rattle.sat_solver.specs.Sound.{IsSound}
-use Rattle.sat_solver.proofs.Growing.{clause_at-enumerate, AreReasons-append, AreReasons-prefix, AreReasons-push, AreReasons-follow, AreCalled-follow, AreCalled-decide, AreCalled-prefix, AreCalled-more_live, IsCovered-more_roots}
+use Rattle.sat_solver.proofs.Growing.{clause_at-enumerate, AreReasons-append, AreReasons-prefix, AreReasons-push, AreReasons-follow, AreCalled-follow, AreCalled-decide, AreCalled-prefix, AreCalled-more_live, IsCovered-more_puts}
+use Rattle.sat_solver.proofs.Rooted.{units_more, units_upto}
 use Rattle.sat_solver.proofs.Passing.{passed_more}
 use Rattle.sat_solver.proofs.Satisfying.{satisfied}
 
 -- ---- more on the trail
-
-roots_grow : (ps more : List Put) (l : ℤ) → has (lits (upto 0 ps)) l ≡ true → has (lits (upto 0 (ps ++ more))) l ≡ true
-roots_grow ps more l h =
-    ap (λ qs. has (lits qs) l) (filter-append (λ (p : Put). leb p.level 0) ps more)
-    ∙ ap (λ ls. has ls l) (lits-append (upto 0 ps) (upto 0 more))
-    ∙ has-append (lits (upto 0 ps)) (lits (upto 0 more)) l
-    ∙ or_left (has (lits (upto 0 ps)) l) (has (lits (upto 0 more)) l) h
 
 -- after propagation
 pub sound_propagated : (vars : ℕ) (lives : List (ℕ × List ℤ)) (done : List (List ℤ)) (names : List ℕ) (b b' : BookState) (t t' : TrailState) → IsSound vars lives done names b t → b' ≡ record { vars = b.vars; clauses = b.clauses; seen = marks t'.puts } → Spreads b.clauses t t' → IsSound vars lives done names b' t'
@@ -45,7 +35,7 @@ sound_propagated vars lives done names b b' t t' h book s =
       called = AreCalled-follow lives b.clauses names t.level (lits t.puts) t.puts s.more h.called s.follow;
       one_name = h.one_name;
       small_names = h.small_names;
-      covered = λ c there. IsCovered-more_roots b.clauses (lits (upto 0 t.puts)) (lits (upto 0 (t.puts ++ s.more))) c (λ l k. roots_grow t.puts s.more l k) (h.covered c there);
+      covered = λ c there. IsCovered-more_puts b.clauses t.puts (t.puts ++ s.more) c (units_more t.puts s.more) (h.covered c there);
     }))
 
 pub passed_propagated : (queue : List ℕ) (from : Option ℕ) (clauses : List (List ℤ)) (t t' : TrailState) → IsPassed queue t.puts from → Spreads clauses t t' → IsPassed queue t'.puts from
@@ -65,7 +55,7 @@ sound_decided vars lives done names b t t' l h is =
       called = AreCalled-decide lives b.clauses names t.puts p h.called refl;
       one_name = h.one_name;
       small_names = h.small_names;
-      covered = λ c there. IsCovered-more_roots b.clauses (lits (upto 0 t.puts)) (lits (upto 0 (t.puts ++ p ∷ []))) c (λ m k. roots_grow t.puts (p ∷ []) m k) (h.covered c there);
+      covered = λ c there. IsCovered-more_puts b.clauses t.puts (t.puts ++ p ∷ []) c (units_more t.puts (p ∷ [])) (h.covered c there);
     })
 
 pub passed_decided : (queue : List ℕ) (from : Option ℕ) (t t' : TrailState) (p : Put) → IsPassed queue t.puts from → t'.puts ≡ t.puts ++ p ∷ [] → IsPassed queue t'.puts from
@@ -93,7 +83,7 @@ sound_back vars lives done names b t level low h trail =
       called = AreCalled-prefix lives b.clauses names kept others (subst (λ (ps : List Put). AreCalled lives b.clauses names ps) parts h.called);
       one_name = h.one_name;
       small_names = h.small_names;
-      covered = λ c there. IsCovered-more_roots b.clauses (lits (upto 0 t.puts)) (lits (upto 0 kept)) c (λ l k. ap (λ ps. has (lits ps) l) (upto-upto 0 level t.puts (omega arith)) ∙ k) (h.covered c there);
+      covered = λ c there. IsCovered-more_puts b.clauses t.puts kept c (units_upto level t.puts) (h.covered c there);
     }
 
 -- ---- more clauses in the proof

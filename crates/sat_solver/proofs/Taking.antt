@@ -3,24 +3,23 @@ use Rattle.std.proofs.Common.{◌≡◌, ℕ, ◌+◌, ◌^◌, ◌<◌, ◌≤�
 use Rattle.std.specs.Bool.{MatchBool}
 use Rattle.std.specs.Result.{IfOk}
 use Rattle.std.specs.List.{slice_get, enumerate_from}
-use Rattle.std.proofs.lemmas.Bool.{cases_Bool, or_right, le-leb}
+use Rattle.std.proofs.lemmas.Bool.{cases_Bool, le-leb}
 use Rattle.std.proofs.lemmas.List.{take_more}
-use Rattle.std.proofs.lemmas.List.Elements.{Contains-push, filter-append}
+use Rattle.std.proofs.lemmas.List.Elements.{All-push, Contains-push, filter-append}
 use Rattle.std.proofs.lemmas.Option.{slice_get_read}
 use Rattle.cnf_base.specs.Judged.{has, IsRefutedIn}
 use Rattle.cnf_base.specs.Meaning.{CnfFormula}
-use Rattle.cnf_base.proofs.Literals.{has-append, has-head}
 use Rattle.lrat_text.specs.Accepted.{IsBothWays}
 use Rattle.lrat_text.specs.Standing.{clause_at}
 use Rattle.lrat_text.specs.Spent.{SameLiterals}
 use Rattle.sat_trail.specs.declared.clause_id.ClauseId.TheVariants as ids
 use Rattle.sat_trail.specs.Trail.{Put, TrailState, lits, upto}
 use Rattle.sat_watch.specs.Book.{BookState}
-use Rattle.sat_watch.proofs.Spreading.{lits-append}
 use Rattle.sat_learn.specs.Reasons.{IsCalled}
 use Rattle.sat_solver.specs.Sound.{IsCovered, IsSound}
-use Rattle.sat_solver.specs.Loading.{IsLoaded, IsRefutedAt, Store, with_unit, IsTaken}
+use Rattle.sat_solver.specs.Loading.{RestsOnUnit, IsLoaded, IsRefutedAt, Store, with_unit, IsTaken}
 use Rattle.sat_solver.proofs.Growing.{clause_at-enumerate}
+use Rattle.sat_solver.proofs.Rooted.{unit_there, unit_pushed}
 use Rattle.sat_solver.proofs.Sounding.{sound_with_done, sound_with_clause, sound_with_unit}
 
 -- ---- the clause at a place
@@ -39,7 +38,7 @@ called_at formula place clause ls at same =
     (clause, ap (clause_at (enumerate_from 1 formula.clauses)) number ∙ clause_at-enumerate 1 formula.clauses place clause (found formula place clause at), same)
 
 -- it is covered, so one more is loaded
-loaded_more : (formula : CnfFormula) (place : ℕ) (names : List ℕ) (b : BookState) (t : TrailState) (clause : List ℤ) → IsLoaded formula place names b t → IsAt formula place clause → IsCovered b.clauses (lits (upto 0 t.puts)) clause → IsLoaded formula (place + 1) names b t
+loaded_more : (formula : CnfFormula) (place : ℕ) (names : List ℕ) (b : BookState) (t : TrailState) (clause : List ℤ) → IsLoaded formula place names b t → IsAt formula place clause → IsCovered b.clauses t.puts clause → IsLoaded formula (place + 1) names b t
 loaded_more formula place names b t clause h at covered =
     let more : take (place + 1) formula.clauses ≡ take place formula.clauses ++ clause ∷ [] =
     take_more formula.clauses place clause at.within ∙ ap (λ c. take place formula.clauses ++ c ∷ []) (sym at.here) in
@@ -50,6 +49,7 @@ loaded_more formula place names b t clause h at covered =
       sound = subst P (sym more) (sound_with_done formula.vars (enumerate_from 1 formula.clauses) (take place formula.clauses) names b t clause h.sound covered);
       at_root = h.at_root;
       all_at_root = h.all_at_root;
+      all_units = h.all_units;
       low = h.low;
     }
 
@@ -68,19 +68,19 @@ loaded_put formula place names b t l id h called small =
       sound = sound_with_unit formula.vars (enumerate_from 1 formula.clauses) (take place formula.clauses) names b t l id h.sound called small;
       at_root = h.at_root;
       all_at_root = filter-append (λ (q : Put). leb q.level 0) t.puts (p ∷ []) ∙ ap (λ qs. qs ++ upto 0 (p ∷ [])) h.all_at_root ∙ ap (λ qs. t.puts ++ qs) last;
+      all_units = All-push RestsOnUnit t.puts p h.all_units (id, refl);
       low = h.low;
     }
 
 loaded_unit : (formula : CnfFormula) (place : ℕ) (names : List ℕ) (b : BookState) (t : TrailState) (clause : List ℤ) (l : ℤ) → IsLoaded formula place names b t → IsAt formula place clause → SameLiterals clause (l ∷ []) → place + 1 < 2 ^ 62 → IsLoaded formula (place + 1) names b (with_unit (place + 1) l t)
 loaded_unit formula place names b t clause l h at same small =
     elim (cases_Bool (has (lits t.puts) l)) [
-      | inl e ↦ (let true_there : has (lits (upto 0 t.puts)) l ≡ true = ap (λ qs. has (lits qs) l) h.all_at_root ∙ e in
-          rw e (loaded_more formula place names b t clause h at (inr (inl (l, same, true_there)))))
+      | inl e ↦ (let there = unit_there t.puts l h.all_at_root h.all_units e in
+          rw e (loaded_more formula place names b t clause h at (inr (inl (l, there.0, same, there.1)))))
       | inr e ↦ (let p : Put = record { lit = l; level = t.level; reason = Some (ids.Unit (place + 1)) } in
           let put = loaded_put formula place names b t l (place + 1) h (called_at formula place clause (l ∷ []) at same) small in
-          let true_there : has (lits (upto 0 (t.puts ++ p ∷ []))) l ≡ true =
-          ap (λ qs. has (lits qs) l) put.all_at_root ∙ ap (λ ls. has ls l) (lits-append t.puts (p ∷ [])) ∙ has-append (lits t.puts) (l ∷ []) l ∙ or_right (has (lits t.puts) l) (has (l ∷ []) l) (has-head l []) in
-          rw e (loaded_more formula place names b (record t { puts = t.puts ++ p ∷ [] }) clause put at (inr (inl (l, same, true_there)))))
+          let there = unit_pushed t.puts l (place + 1) t.level h.at_root in
+          rw e (loaded_more formula place names b (record t { puts = t.puts ++ p ∷ [] }) clause put at (inr (inl (l, place + 1, same, there)))))
     ]
 
 loaded_clause : (formula : CnfFormula) (place : ℕ) (names : List ℕ) (b : BookState) (t : TrailState) (clause ls : List ℤ) → IsLoaded formula place names b t → IsAt formula place clause → SameLiterals clause ls → place + 1 < 2 ^ 62 → IsLoaded formula (place + 1) (names ++ (place + 1) ∷ []) (record b { clauses = b.clauses ++ ls ∷ [] }) t
@@ -90,6 +90,7 @@ loaded_clause formula place names b t clause ls h at same small =
       sound = sound_with_clause formula.vars (enumerate_from 1 formula.clauses) (take place formula.clauses) names b t ls (place + 1) h.sound (called_at formula place clause ls at same) small;
       at_root = h.at_root;
       all_at_root = h.all_at_root;
+      all_units = h.all_units;
       low = h.low;
     } in
     loaded_more formula place (names ++ (place + 1) ∷ []) (record b { clauses = b.clauses ++ ls ∷ [] }) t clause grown at (inr (inr (ls, Contains-push b.clauses ls, same)))

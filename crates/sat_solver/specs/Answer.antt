@@ -1,12 +1,14 @@
 -- What each answer of the solver says.
-use Rattle.std.specs.Prelude.{◌≡◌, ℕ, suc, ◌-◌, ◌≤◌, Bool, false, List, [], ◌∷◌, length, slice_index_or}
+use Rattle.std.specs.Prelude.{◌≡◌, ℕ, suc, ◌-◌, ◌≤◌, Bool, false, ℤ, List, [], ◌∷◌, length, slice_index_or}
 use Rattle.cnf_base.specs.Meaning.{CnfFormula, Satisfies}
 use Rattle.lrat_text.specs.declared.proof.LratStep.{LratStep}
 use Rattle.lrat_text.specs.declared.proof.LratStep.TheVariants.{Add, Delete}
-use Rattle.lrat_text.specs.Accepted.{Accepted}
+use Rattle.lrat_text.specs.Standing.{start}
+use Rattle.lrat_text.specs.Accepted.{Ends, Accepted}
 use Rattle.lrat_text.specs.Spent.{SpentOn, Earned}
 use Rattle.sat_solver.specs.declared.answer.Answer.{Answer}
 use Rattle.sat_solver.specs.declared.answer.Answer.TheVariants.{Sat, Unsat, Spent}
+use Rattle.sat_solver.specs.Ledger.{after_all}
 
 -- the value of a variable, where the first one stands for variable 1
 abbrev pub value_of : List Bool → ℕ → Bool
@@ -29,10 +31,12 @@ pub record IsRefutation (formula : CnfFormula) (lemmas : ℕ) (proof : List Lrat
   pub accepted : Accepted formula proof
   pub within : lemma_count proof ≤ lemmas
 
--- a proof that spends the whole budget on lemmas that it earns
+-- a proof that spends the whole budget on lemmas that it earns, where unit propagation from the formula and the lemmas
+-- alone meets no false clause
 pub record IsSpending (formula : CnfFormula) (lemmas : ℕ) (proof : List LratStep) : Type 0 where
   pub spent : SpentOn formula lemmas proof
   pub earned : Earned formula proof
+  pub undecided : (hints : List ℤ) → ¬ Ends (after_all (start formula) proof).live [] hints
 
 abbrev pub IsAnswer : CnfFormula → ℕ → Answer → Type 0
 IsAnswer formula lemmas (Sat bits) = IsModel formula bits

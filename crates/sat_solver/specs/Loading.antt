@@ -1,12 +1,15 @@
 -- How far a formula is loaded.
-use Rattle.std.specs.Prelude.{◌≡◌, ℕ, ◌≤◌, cond, ℤ, List, [], ◌∷◌, ◌++◌, length, take, slice_get, Some}
+use Rattle.std.specs.Prelude.{◌≡◌, ℕ, ◌≤◌, cond, ℤ, List, [], ◌∷◌, ◌++◌, length, take, slice_get, Some, All}
 use Rattle.std.specs.List.{enumerate_from}
 use Rattle.cnf_base.specs.Judged.{has, IsRefutedIn}
 use Rattle.cnf_base.specs.Meaning.{CnfFormula}
 use Rattle.sat_trail.specs.declared.clause_id.ClauseId.TheVariants as ids
-use Rattle.sat_trail.specs.Trail.{TrailState, lits, upto}
+use Rattle.sat_trail.specs.Trail.{Put, TrailState, lits, upto}
 use Rattle.sat_watch.specs.Book.{BookState}
 use Rattle.sat_solver.specs.Sound.{IsSound}
+
+abbrev pub RestsOnUnit : Put → Type 0
+RestsOnUnit p = (id : ℕ) × (p.reason ≡ Some (ids.Unit id))
 
 -- the first clauses of a formula stand in the book and at level 0 of the trail, which nobody has propagated yet
 pub record IsLoaded (formula : CnfFormula) (count : ℕ) (names : List ℕ) (b : BookState) (t : TrailState) : Type 0 where
@@ -14,6 +17,7 @@ pub record IsLoaded (formula : CnfFormula) (count : ℕ) (names : List ℕ) (b :
   pub sound : IsSound formula.vars (enumerate_from 1 formula.clauses) (take count formula.clauses) names b t
   pub at_root : t.level ≡ 0
   pub all_at_root : upto 0 t.puts ≡ t.puts
+  pub all_units : All RestsOnUnit t.puts
   pub low : t.low ≡ 0
 
 -- the clause at a place is false

@@ -1,17 +1,23 @@
 -- How the clauses of a proof stand in a book and on a trail.
-use Rattle.std.specs.Prelude.{◌≡◌, ℕ, ◌<◌, ◌^◌, IsTrue, ℤ, List, [], ◌∷◌, length, All, Contains, ◌⊎◌}
-use Rattle.cnf_base.specs.Judged.{has}
+use Rattle.std.specs.Prelude.{◌≡◌, ℕ, ◌<◌, ◌^◌, ℤ, Some, List, [], ◌∷◌, length, All, Contains, ◌⊎◌}
 use Rattle.lrat_text.specs.Accepted.{IsBothWays}
 use Rattle.lrat_text.specs.Spent.{SameLiterals}
-use Rattle.sat_trail.specs.Trail.{TrailState, lits, upto}
+use Rattle.sat_trail.specs.declared.clause_id.ClauseId.{ClauseId}
+use Rattle.sat_trail.specs.declared.clause_id.ClauseId.TheVariants as ids
+use Rattle.sat_trail.specs.Trail.{Put, TrailState}
 use Rattle.sat_watch.specs.Book.{BookState}
 use Rattle.sat_learn.specs.Reasons.{AreReasons, AreCalled}
 
--- a clause has a literal both ways, or only one literal, which is true at level 0, or the literals of a clause of the book
-abbrev pub IsCovered : List (List ℤ) → List ℤ → List ℤ → Type 0
-IsCovered clauses roots clause =
+-- a literal of level 0 that rests on this clause
+abbrev pub root : ℤ → ClauseId → Put
+root l id = record { lit = l; level = 0; reason = Some id }
+
+-- a clause has a literal both ways, or only one literal, which stands at level 0 and rests on a unit clause, or the
+-- literals of a clause of the book
+abbrev pub IsCovered : List (List ℤ) → List Put → List ℤ → Type 0
+IsCovered clauses puts clause =
     IsBothWays clause
-    ⊎ (((l : ℤ) × SameLiterals clause (l ∷ []) × IsTrue (has roots l))
+    ⊎ (((l : ℤ) × (id : ℕ) × SameLiterals clause (l ∷ []) × Contains puts (root l (ids.Unit id)))
     ⊎ ((held : List ℤ) × Contains clauses held × SameLiterals clause held))
 
 -- the book and the trail stand for the clauses `done`; the live clauses of the proof have their names
@@ -22,4 +28,4 @@ pub record IsSound (vars : ℕ) (live : List (ℕ × List ℤ)) (done : List (Li
   pub called : AreCalled live b.clauses names t.puts
   pub one_name : length names ≡ length b.clauses
   pub small_names : All (λ name. name < 2 ^ 62) names
-  pub covered : (clause : List ℤ) → Contains done clause → IsCovered b.clauses (lits (upto 0 t.puts)) clause
+  pub covered : (clause : List ℤ) → Contains done clause → IsCovered b.clauses t.puts clause

@@ -1,7 +1,8 @@
 //! A lemma, into the proof, the book and the queue.
 
-ghost use Rattle.std.specs.Prelude.{◌≡◌, ◌+◌, ◌<◌, ◌≤◌, ◌^◌, ℤ, nat_abs, All, length, OnOk};
+ghost use Rattle.std.specs.Prelude.{◌≡◌, ◌+◌, ◌<◌, ◌≤◌, ◌^◌, ◌++◌, ℤ, List, nat_abs, All, length, OnOk};
 ghost use Rattle.cnf_base.specs.Dimacs.{IsLiteral};
+ghost use Rattle.sat_trail.specs.Trail.{Put, upto};
 ghost use Rattle.sat_watch.specs.Ready.{IsReady};
 ghost use Rattle.sat_solver.specs.Deciding.{IsPassed};
 ghost use Rattle.sat_solver.specs.Keeping.{CanHold, Holds};
@@ -20,14 +21,14 @@ use sat_trail::{ClauseId, Trail};
 use sat_watch::ClauseBook;
 use std::alloc::Global;
 
-/// A restart comes after so many lemmas.
-const LEMMAS_A_RESTART: usize = 128;
+/// A restart comes after so many lessons.
+const LESSONS_A_RESTART: usize = 128;
 
-/// The level to go back to after a lemma, where there are so many.
-fn level_after(lemmas: usize, back: u32) -> u32
+/// The level to go back to after a lesson, where there are so many.
+fn level_after(lessons: usize, back: u32) -> u32
     ensures { result ≤ back }
 {
-    if lemmas % LEMMAS_A_RESTART == 0 {
+    if lessons % LESSONS_A_RESTART == 0 {
         0
     } else {
         back
@@ -82,10 +83,12 @@ pub fn keep(
     ensures ready { OnOk result (IsReady search.new.book search.new.trail) }
     ensures one { OnOk result (length search.new.steps ≡ length search.old.steps + 1) }
     ensures passed { OnOk result (IsPassed search.new.queue search.new.trail.puts search.new.from) }
+    ensures roots { OnOk result ((more : List Put) × (upto 0 search.new.trail.puts ≡ upto 0 search.old.trail.puts ++ more)) }
 {
     let id = next_id(formula, &search.steps);
     let lemma = Clause::from_slice(alloc, lesson.lits())?;
-    let level = level_after(search.steps.len() + 1, lesson.back());
+    search.lessons += 1;
+    let level = level_after(search.lessons, lesson.back());
     let _ = search.trail.vars();
     search.phases.note(&search.trail, level);
     search.trail.back_to(level);

@@ -7,12 +7,14 @@ mod deciding;
 mod keeping;
 mod loading;
 mod model;
+mod naming;
 mod phases;
 mod plain;
 mod search;
 mod solving;
 mod teaching;
 mod turning;
+mod weighed;
 
 pub use answer::Answer;
 pub use solving::solve;

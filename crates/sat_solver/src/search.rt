@@ -4,6 +4,7 @@ ghost use Rattle.std.specs.Prelude.{◌≡◌, ◌≤◌, [], slice_get, IfOk};
 ghost use Rattle.std.specs.List.{range_with_len};
 
 use crate::phases::Phases;
+use crate::weighed::Weighed;
 use ketch_base::OutOfMemory;
 use lrat_text::Proof;
 use sat_learn::Learner;
@@ -23,7 +24,11 @@ pub struct Search {
     pub from: Option<u32>,
     pub phases: Phases,
     pub learner: Learner,
+    /// The variables of level 0 whose derivations were weighed.
+    pub weighed: Weighed,
     pub steps: Proof,
+    /// How many of the steps are lessons. The others are literals of level 0.
+    pub lessons: usize,
 }
 
 impl Search {
@@ -38,6 +43,8 @@ impl Search {
         ensures from { IfOk result (λ s. s.from ≡ slice_get s.queue 0) }
         ensures phases { IfOk result (λ s. s.phases ≡ vars) }
         ensures learner { IfOk result (λ s. s.learner ≡ vars) }
+        ensures weighed { IfOk result (λ s. s.weighed ≡ vars) }
+        ensures lessons { IfOk result (λ s. s.lessons ≡ 0) }
     {
         let queue = VarQueue::new(alloc, vars)?;
         let from = queue.first();
@@ -49,7 +56,9 @@ impl Search {
             from,
             phases: Phases::new(alloc, vars)?,
             learner: Learner::new(alloc, vars)?,
+            weighed: Weighed::new(alloc, vars)?,
             steps: Proof::new(alloc),
+            lessons: 0,
         })
     }
 }

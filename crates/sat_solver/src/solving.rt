@@ -57,6 +57,7 @@ fn answer(
             Ok(Answer::Unsat(close(alloc, formula, search, &clause, name)?))
         }
         Turn::Spent => {
+            let _ = (search.trail.vars(), search.book.vars());
             let Search { steps, .. } = search;
             Ok(Answer::Spent(steps))
         }

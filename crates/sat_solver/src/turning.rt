@@ -11,6 +11,7 @@ ghost use Rattle.sat_solver.specs.Turning.{IsTurn, left, AllAssigned, TurnIs};
 
 use crate::deciding::next_variable;
 use crate::keeping::keep;
+use crate::naming::name_roots;
 use crate::search::Search;
 use crate::teaching::teach;
 use cnf_base::Formula;
@@ -67,7 +68,7 @@ fn decide(search: &mut Search) -> bool
     true
 }
 
-/// Learns from a clause that is false above level 0, and goes on where the lemma is unit.
+/// Learns from a clause that is false above level 0, goes on where the lemma is unit, and names what it rests on at level 0.
 fn learn(
     alloc: Global,
     formula: &Formula,
@@ -82,9 +83,10 @@ fn learn(
     ensures turn { OnOk result (IsTurn formula.now lemmas search.new) }
     ensures less { OnOk result (left lemmas search.new < left lemmas search.old) }
 {
-    let _ = lemmas;
     let lesson = teach(search, conflict)?;
+    let roots = Vec::from_slice(alloc, lesson.roots())?;
     keep(alloc, formula, search, lesson)?;
+    name_roots(alloc, formula, search, &roots, lemmas)?;
     Ok(())
 }
 

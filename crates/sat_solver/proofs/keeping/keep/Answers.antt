@@ -8,7 +8,7 @@ use Rattle.sat_solver.specs.Keeping.{CanHold, Holds}
 use Rattle.sat_solver.specs.Ledger.{earlier, live, IsLedger}
 use Rattle.sat_solver.specs.Sound.{IsSound}
 use Rattle.sat_solver.proofs.Holding.{ready_held}
-use Rattle.sat_solver.proofs.Kept.{sound_kept, ledger_kept}
+use Rattle.sat_solver.proofs.Kept.{sound_kept, ledger_kept, roots_kept}
 use Rattle.sat_solver.proofs.Lessons.{back_at, ready_back, lesson_open, lesson_root, lesson_fits}
 use Rattle.sat_solver.proofs.Passing.{first_passed}
 use Rattle.sat_solver.proofs.keeping.keep.Goals as goal
@@ -40,7 +40,7 @@ returns-clause-search c =
     let Q : TrailState → Type 0 = λ x. Holds lesson.lits id b x search.names.items c.hold.new.book c.hold.new.trail c.hold.new.names.items in
     let holds = subst Q c.back_to.ensures (subst P lemma_is c.in_ok-hold.ensures) in
     let T : TrailState → Type 0 = λ x. IsTrail x in
-    let back = subst T c.back_to.ensures c.len-2.ensures.well_formed in
+    let back = subst T c.back_to.ensures c.len.ensures.well_formed in
     let made : List ℤ → List ℤ → List LratStep = λ ls hints. search.steps ++ Add id ls hints ∷ [] in
     let steps_are : c.push.new.self ≡ made lesson.lits lesson.hints = c.in_ok-push.ensures.ok ∙ ap (λ ls. made ls c.into_hints.result) lemma_is ∙ ap (made lesson.lits) c.into_hints.ensures in
     let few : id < 2 ^ 62 = omega (arith, c.next_id-id.ensures, h.few_clauses, h.few_steps) in
@@ -56,6 +56,8 @@ returns-clause-search c =
       queue_vars = c.bring_to_front.ensures ∙ h.queue_vars;
       phases_vars = c.note.ensures ∙ h.phases_vars;
       learner_vars = h.learner_vars;
+      weighed_vars = h.weighed_vars;
+      few_lessons = (let size = ap length steps_are in omega (arith, length_push search.steps (Add id lesson.lits lesson.hints), h.few_lessons));
     }
 
 pub returns-clause-ready : goal.returns-clause-ready
@@ -74,7 +76,7 @@ returns-clause-ready c =
     let Q : TrailState → Type 0 = λ x. Holds lesson.lits id b x search.names.items c.hold.new.book c.hold.new.trail c.hold.new.names.items in
     let holds = subst Q c.back_to.ensures (subst P lemma_is c.in_ok-hold.ensures) in
     let T : TrailState → Type 0 = λ x. IsTrail x in
-    let back = subst T c.back_to.ensures c.len-2.ensures.well_formed in
+    let back = subst T c.back_to.ensures c.len.ensures.well_formed in
     ready_held b c.hold.new.book (back_at level t) c.hold.new.trail search.names.items c.hold.new.names.items id lesson.lits
     (ready_back b t level c.requires.ready c.vars.ensures.well_formed (omega arith)) back (lesson_root t lesson level h le) (lesson_open t lesson level h le) holds
 
@@ -82,3 +84,12 @@ pub returns-clause-passed : goal.returns-clause-passed
 returns-clause-passed c =
     let P : Option ℕ → Type 0 = λ from. IsPassed c.bring_to_front.new.queue c.hold.new.trail.puts from in
     subst P (sym c.first-search.ensures) (first_passed c.bring_to_front.new.queue c.hold.new.trail.puts)
+
+pub returns-clause-roots : goal.returns-clause-roots
+returns-clause-roots c =
+    let search = c.args.search.now in
+    let names = search.names.items in
+    let id = c.next_id-id.result in
+    let level = c.level_after-level.result in
+    let P : TrailState → Type 0 = λ x. Holds c.in_ok-lemma.lemma id search.book x names c.hold.new.book c.hold.new.trail c.hold.new.names.items in
+    roots_kept c.in_ok-lemma.lemma level id search.book c.hold.new.book search.trail c.hold.new.trail names c.hold.new.names.items (subst P c.back_to.ensures c.in_ok-hold.ensures)

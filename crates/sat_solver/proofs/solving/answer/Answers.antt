@@ -2,7 +2,9 @@ use Rattle.std.proofs.Common.{subst}
 use Rattle.sat_solver.specs.declared.turning.Turn.{Turn}
 use Rattle.sat_solver.specs.Ledger.{live}
 use Rattle.sat_solver.specs.Turning.{EndIs}
+use Rattle.sat_solver.proofs.Recording.{IsSpending-end}
 use Rattle.sat_solver.proofs.Standing.{is_model}
+use Rattle.sat_solver.proofs.Undecided.{IsAtRest, undecided}
 use Rattle.sat_solver.proofs.solving.answer.Goals as goal
 
 pub returns-in_ok-values-in-Satisfied : goal.returns-in_ok-values-in-Satisfied
@@ -19,3 +21,18 @@ returns-in_ok-close-in-Refuted c =
     let P : Turn → Type 0 = λ end. EndIs c.args.formula.now c.args.lemmas c.args.search end in
     let h = subst P c.in-Refuted.is c.requires in
     c.in_ok-close-in-Refuted.ensures c.args.lemmas h.0.within
+
+pub returns-in-Spent : goal.returns-in-Spent
+returns-in-Spent c =
+    let s = c.args.search in
+    let formula = c.args.formula.now in
+    let P : Turn → Type 0 = λ end. EndIs formula c.args.lemmas s end in
+    let h = subst P c.in-Spent.is c.requires in
+    let turn = h.0 in
+    let rest : IsAtRest s.book s.trail = record {
+      trail = c.vars-in-Spent.ensures.well_formed;
+      book = c.vars-in-Spent-2.ensures.well_formed;
+      none_false = turn.ready.none_false 0 h.2;
+      none_unit = turn.ready.none_unit 0 h.2;
+    } in
+    IsSpending-end formula c.args.lemmas s.steps turn.search.ledger h.1 (λ hints. undecided formula s.steps s.book s.trail hints rest turn.search.sound.covered)

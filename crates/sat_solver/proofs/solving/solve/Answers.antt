@@ -27,11 +27,11 @@ pub close-requires-clause-search : goal.close-requires-clause-search
 close-requires-clause-search c =
     let formula = c.args.formula.now in
     let made = c.in_ok-search.search in
-    let s : Search = record { trail = c.load.new.trail; book = c.load.new.book; names = c.load.new.names; queue = made.queue; from = made.from; phases = made.phases; learner = made.learner; steps = made.steps } in
+    let s : Search = record { trail = c.load.new.trail; book = c.load.new.book; names = c.load.new.names; queue = made.queue; from = made.from; phases = made.phases; learner = made.learner; weighed = made.weighed; steps = made.steps; lessons = made.lessons } in
     let e = c.in_ok-search.ensures in
     let h = subst (Loads formula s.names.items s.book s.trail) c.in-Some.is c.in_ok-refuted.ensures in
     let done = take c.in-Some.place formula.clauses in
-    (done, begun formula done s c.vars.result c.requires.few_clauses c.vars.ensures.value e.steps e.queue e.phases e.learner (loaded_sound formula c.in-Some.place s.names.items s.book s.trail h.0))
+    (done, begun formula done s c.vars.result c.requires.few_clauses c.vars.ensures.value e.steps e.queue e.phases e.learner e.weighed e.lessons (loaded_sound formula c.in-Some.place s.names.items s.book s.trail h.0))
 
 pub close-requires-clause-false_now : goal.close-requires-clause-false_now
 close-requires-clause-false_now c =
@@ -56,7 +56,7 @@ pub take_turns-requires : goal.take_turns-requires
 take_turns-requires c =
     let formula = c.args.formula.now in
     let made = c.in_ok-search.search in
-    let s : Search = record { trail = c.load.new.trail; book = c.load.new.book; names = c.load.new.names; queue = made.queue; from = made.from; phases = made.phases; learner = made.learner; steps = made.steps } in
+    let s : Search = record { trail = c.load.new.trail; book = c.load.new.book; names = c.load.new.names; queue = made.queue; from = made.from; phases = made.phases; learner = made.learner; weighed = made.weighed; steps = made.steps; lessons = made.lessons } in
     let e = c.in_ok-search.ensures in
     let loaded = subst (Loads formula s.names.items s.book s.trail) c.in_default.is c.in_ok-refuted.ensures in
-    first_turn formula c.args.lemmas s c.vars.result c.requires.few_clauses c.requires.few c.vars.ensures.value e.steps e.queue e.from e.phases e.learner loaded
+    first_turn formula c.args.lemmas s c.vars.result c.requires.few_clauses c.requires.few c.vars.ensures.value e.steps e.queue e.from e.phases e.learner e.weighed e.lessons loaded

@@ -38,6 +38,8 @@ returns-clause-turn c formula lemmas t =
         queue_vars = s.queue_vars;
         phases_vars = s.phases_vars;
         learner_vars = s.learner_vars;
+        weighed_vars = s.weighed_vars;
+        few_lessons = s.few_lessons;
       };
       ready = subst R (sym c.decide.ensures) (ready_decide search.book search.trail p c.requires.settled c.vars-2.ensures.well_formed refl);
       passed = passed_decided search.queue c.next_variable-search.result search.trail c.decide.new.self p c.next_variable-search.ensures.passed (ap (λ (x : TrailState). x.puts) c.decide.ensures);

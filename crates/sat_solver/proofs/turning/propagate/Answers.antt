@@ -24,6 +24,8 @@ returns-clause-turn c formula lemmas t =
         queue_vars = s.queue_vars;
         phases_vars = s.phases_vars;
         learner_vars = s.learner_vars;
+        weighed_vars = s.weighed_vars;
+        few_lessons = s.few_lessons;
       };
       ready = subst R (sym e.book) (ready_after search.book search.trail trail c.requires e.spreads e.marked);
       passed = passed_propagated search.queue search.from search.book.clauses search.trail trail t.passed e.spreads;
