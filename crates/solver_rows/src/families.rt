@@ -60,6 +60,21 @@ fn seats_in_hole(alloc: Global, pigeons: u8, hole: u8) -> Result<Vec<u16>, Alloc
     (0..pigeons).map(|pigeon| seat(pigeon, hole)).collect(alloc)
 }
 
+/// No two of the pigeons sit in the same hole.
+fn add_apart(
+    rt: &impl Abort,
+    alloc: Global,
+    formula: &mut Formula,
+    pigeons: u8,
+    holes: u8,
+) -> Result<(), Fail> {
+    for hole in 0..holes {
+        let seats = seats_in_hole(alloc, pigeons, hole)?;
+        add_most_one(rt, alloc, formula, &seats)?;
+    }
+    Ok(())
+}
+
 /// Each pigeon sits in a hole, of at most five, and no two in the same.
 pub fn pigeonholes(
     rt: &impl Abort,
@@ -72,10 +87,7 @@ pub fn pigeonholes(
         let seats = seats_of_pigeon(alloc, pigeon, holes)?;
         add_some(rt, alloc, &mut formula, &seats)?;
     }
-    for hole in 0..holes {
-        let seats = seats_in_hole(alloc, pigeons, hole)?;
-        add_most_one(rt, alloc, &mut formula, &seats)?;
-    }
+    add_apart(rt, alloc, &mut formula, pigeons, holes)?;
     Ok(formula)
 }
 
@@ -167,5 +179,42 @@ pub fn ladder(rt: &impl Abort, alloc: Global, terms: u8, forced: &[u16]) -> Resu
     for var in forced {
         add(rt, alloc, &mut formula, &[yes(*var)])?;
     }
+    Ok(formula)
+}
+
+/// The first variable of a counter beside pigeonholes, and the last one.
+pub const COUNTER: u16 = 31;
+
+const COUNTER_END: u16 = 64;
+
+/// A counter of two bits that runs from 0: a variable is its low bit and the next one its high bit, for each step anew.
+/// It is 0 again at the end.
+fn add_counter(rt: &impl Abort, alloc: Global, formula: &mut Formula) -> Result<(), Fail> {
+    add(rt, alloc, formula, &[no(COUNTER)])?;
+    add(rt, alloc, formula, &[no(COUNTER + 1)])?;
+    for step in 0..16u16 {
+        let low = COUNTER + 2 * step;
+        add(rt, alloc, formula, &[yes(low), yes(low + 2)])?;
+        add(rt, alloc, formula, &[no(low), no(low + 2)])?;
+        add_even(rt, alloc, formula, low, low + 1, low + 3)?;
+    }
+    Ok(())
+}
+
+/// Each pigeon sits in a hole, unless the high bit of a counter is true in the end, and no two in the same.
+pub fn pigeonholes_beside_counter(
+    rt: &impl Abort,
+    alloc: Global,
+    pigeons: u8,
+    holes: u8,
+) -> Result<Formula, Fail> {
+    let mut formula = begin(rt, alloc, u32::from(COUNTER_END));
+    add_counter(rt, alloc, &mut formula)?;
+    for pigeon in 0..pigeons {
+        let mut vars = seats_of_pigeon(alloc, pigeon, holes)?;
+        vars.push(COUNTER_END)?;
+        add_some(rt, alloc, &mut formula, &vars)?;
+    }
+    add_apart(rt, alloc, &mut formula, pigeons, holes)?;
     Ok(formula)
 }

@@ -1,7 +1,10 @@
 //! What the solver answers to the families.
 
-use crate::families::{ladder, parities, pigeonholes};
+use crate::families::{COUNTER, ladder, parities, pigeonholes, pigeonholes_beside_counter};
 use crate::judging::{Verdict, outcome_of, verdict_of};
+use cnf_base::Formula;
+use std::alloc::Global;
+use std::process::Abort;
 use std::test::Fail;
 
 const LEMMAS: u64 = 1_000_000;
@@ -21,15 +24,30 @@ fn pigeons_in_holes(rt: HostRuntime) -> Result<(), Fail> {
 }
 
 /// A budget that is too small is spent to the last lemma.
-#[test]
-fn small_budgets(rt: HostRuntime) -> Result<(), Fail> {
-    let crowded = pigeonholes(&rt, rt.alloc(), 6, 5)?;
+fn spend_small_budgets(rt: &impl Abort, alloc: Global, formula: &Formula) -> Result<(), Fail> {
     for lemmas in 1..4u64 {
-        let outcome = outcome_of(&rt, rt.alloc(), &crowded, lemmas)?;
+        let outcome = outcome_of(rt, alloc, formula, lemmas)?;
         assert_eq!(rt; outcome.verdict, Verdict::Spent);
         assert_eq!(rt; outcome.steps as u64, lemmas);
     }
     Ok(())
+}
+
+#[test]
+fn small_budgets(rt: HostRuntime) -> Result<(), Fail> {
+    let crowded = pigeonholes(&rt, rt.alloc(), 6, 5)?;
+    spend_small_budgets(&rt, rt.alloc(), &crowded)
+}
+
+/// Lemmas rest on bits of the counter that are lemmas themselves, since their derivations are long. No conflict teaches
+/// one, since they stand at level 0 from the start.
+#[test]
+fn pigeons_beside_a_counter(rt: HostRuntime) -> Result<(), Fail> {
+    let crowded = pigeonholes_beside_counter(&rt, rt.alloc(), 5, 4)?;
+    let outcome = outcome_of(&rt, rt.alloc(), &crowded, LEMMAS)?;
+    assert_eq!(rt; outcome.verdict, Verdict::Unsat);
+    assert!(rt; outcome.greatest_named >= u32::from(COUNTER));
+    spend_small_budgets(&rt, rt.alloc(), &crowded)
 }
 
 #[test]

@@ -4,6 +4,7 @@ use crate::truth::satisfies;
 use aig_model::Bits;
 use cnf_base::Formula;
 use lrat_check::{check_proof, check_spent};
+use lrat_text::{LratStep, Proof};
 use sat_solver::{Answer, solve};
 use std::alloc::Global;
 use std::process::Abort;
@@ -16,12 +17,14 @@ pub enum Verdict {
     Spent,
 }
 
-/// A verdict, the values of a model, of which bit v - 1 is that of variable v, and the number of a proof's steps.
+/// A verdict, the values of a model, of which bit v - 1 is that of variable v, the number of a proof's steps, and the
+/// greatest variable whose lemma of one literal has more than 8 hints and is a hint of a longer lemma, or 0.
 #[derive(Clone, Copy, Debug, PartialEq, Eq)]
 pub struct Outcome {
     pub verdict: Verdict,
     pub values: u64,
     pub steps: usize,
+    pub greatest_named: u32,
 }
 
 /// A limit of the solver, on lemmas and on clauses.
@@ -45,7 +48,39 @@ fn judged_model(rt: &impl Abort, formula: &Formula, bits: &Bits) -> Outcome {
         verdict: Verdict::Sat,
         values,
         steps: 0,
+        greatest_named: 0,
     }
+}
+
+/// The id, as a hint, and the variable of a step that adds a clause of one literal by more than 8 hints.
+fn long_unit(step: &LratStep) -> Option<(i64, u32)> {
+    let LratStep::Add { id, lits, hints } = step else {
+        return None;
+    };
+    match lits.as_slice() {
+        [lit] if hints.len() > 8 => Some((i64::try_from(*id).ok()?, lit.var())),
+        _ => None,
+    }
+}
+
+/// Whether a step adds a clause of several literals by a hint of this name.
+fn rests_on(step: &LratStep, name: i64) -> bool {
+    match step {
+        LratStep::Add { lits, hints, .. } => lits.len() > 1 && hints.as_slice().contains(&name),
+        LratStep::Delete { .. } => false,
+    }
+}
+
+fn greatest_named(proof: &Proof) -> u32 {
+    let mut greatest = 0;
+    for step in proof.as_slice() {
+        if let Some((name, var)) = long_unit(step)
+            && proof.as_slice().iter().any(|later| rests_on(later, name))
+        {
+            greatest = var.max(greatest);
+        }
+    }
+    greatest
 }
 
 /// What the solver answers, where a model makes each clause true and the checker accepts each proof.
@@ -67,6 +102,7 @@ pub fn outcome_of(
                 verdict: Verdict::Unsat,
                 values: 0,
                 steps: proof.len(),
+                greatest_named: greatest_named(&proof),
             })
         }
         Answer::Spent(proof) => {
@@ -75,6 +111,7 @@ pub fn outcome_of(
                 verdict: Verdict::Spent,
                 values: 0,
                 steps: proof.len(),
+                greatest_named: greatest_named(&proof),
             })
         }
     }

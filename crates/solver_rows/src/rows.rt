@@ -74,6 +74,7 @@ fn no_clauses(rt: HostRuntime) -> Result<(), Fail> {
         verdict: Verdict::Sat,
         values: 0,
         steps: 0,
+        greatest_named: 0,
     };
     assert_eq!(rt; outcome_of(&rt, rt.alloc(), &formula, 1)?, none);
     Ok(())
@@ -87,6 +88,7 @@ fn empty_clause(rt: HostRuntime) -> Result<(), Fail> {
         verdict: Verdict::Unsat,
         values: 0,
         steps: 1,
+        greatest_named: 0,
     };
     assert_eq!(rt; outcome_of(&rt, rt.alloc(), &formula, 1)?, one_step);
     Ok(())
