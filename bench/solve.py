@@ -4,7 +4,8 @@
 The program is crates/solve_dimacs/out/solve_dimacs, as `rt ci` or `rt run` leaves it. `cadical --plain` and
 `minisat -no-pre`, both without preprocessing, run where they are on PATH; a peer that is missing is skipped. Each
 formula is a circuit of AND gates over time frames: counters, timers, arbiters, multipliers, and random gates. Ketch's
-lemmas are its conflicts; for a satisfiable formula they are found by runs with smaller budgets, where these are short.
+lemmas are its conflicts, and the literals of level 0 that became lemmas; for a satisfiable formula they are found by
+runs with smaller budgets, where these are short.
 
     solve.py [--timeout SECONDS] [--only WORD] [--most CLAUSES] [--folds] [--check] [--keep FOLDER]
 
