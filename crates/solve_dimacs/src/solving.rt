@@ -1,7 +1,9 @@
 //! A formula's answer.
 
-ghost use Rattle.std.specs.Prelude.{◌≤◌, ◌^◌, IfOk, IfSome};
+ghost use Rattle.std.specs.Prelude.{◌≡◌, ℕ, ◌≤◌, ◌^◌, IfOk, IfErr, IfSome};
 ghost use Rattle.solve_dimacs.specs.Solved.{IsAnswerTo};
+ghost use Rattle.solve_dimacs.specs.Stops.{IsWithoutAnswer};
+ghost use Rattle.solve_dimacs.specs.Words.{IsBudget};
 
 use crate::stop::Stop;
 use cnf_base::read_dimacs;
@@ -15,8 +17,8 @@ const LIMIT: u64 = 1 << 30;
 
 /// How many lemmas a word allows.
 pub fn budget(word: &[u8]) -> Result<u64, Stop>
-    ensures some { IfOk result (λ lemmas. 1 ≤ lemmas) }
-    ensures few { IfOk result (λ lemmas. lemmas ≤ 2 ^ 60) }
+    ensures ok { IfOk result (IsBudget word.now) }
+    ensures usage { IfErr result (λ stop. (stop ≡ Stop.Usage) × ((lemmas : ℕ) → ¬ IsBudget word.now lemmas)) }
 {
     match natural(word) {
         Some(lemmas) if lemmas >= 1 && lemmas <= 1 << 60 => Ok(lemmas),
@@ -33,7 +35,8 @@ pub fn solved<D: Desk>(
 ) -> Result<Answer, Stop>
     requires some { 1 ≤ lemmas }
     requires few { lemmas ≤ 2 ^ 60 }
-    ensures { IfOk result (λ answer. IfSome (D.text desk.old name.now) (λ text. IsAnswerTo text lemmas answer)) }
+    ensures answer { IfOk result (λ answer. IfSome (D.text desk.old name.now) (λ text. IsAnswerTo text lemmas answer)) }
+    ensures none { IfErr result IsWithoutAnswer }
 {
     let bytes = read_file(alloc, desk, name, LIMIT)?;
     lines_at_most_bytes(&bytes);

@@ -30,6 +30,11 @@ impl From<std::io::Error> for Stop {
 }
 
 impl From<ReadFault> for Stop {
+    ghost use Rattle.std.specs.Prelude.{◌≡◌};
+    ghost use Rattle.solve_dimacs.specs.Stops.{of_read};
+
+    ghost from_gives = { λ fault e. e ≡ of_read fault };
+
     fn from(fault: ReadFault) -> Stop {
         match fault {
             ReadFault::Failed | ReadFault::TooLong => Stop::BadFormula,
@@ -39,6 +44,11 @@ impl From<ReadFault> for Stop {
 }
 
 impl From<DimacsFault> for Stop {
+    ghost use Rattle.std.specs.Prelude.{◌≡◌};
+    ghost use Rattle.solve_dimacs.specs.Stops.{of_formula};
+
+    ghost from_gives = { λ fault e. e ≡ of_formula fault };
+
     fn from(fault: DimacsFault) -> Stop {
         match fault {
             DimacsFault::At { .. } => Stop::BadFormula,
@@ -48,18 +58,33 @@ impl From<DimacsFault> for Stop {
 }
 
 impl From<WriteFault> for Stop {
+    ghost use Rattle.std.specs.Prelude.{◌≡◌};
+    ghost use Rattle.solve_dimacs.specs.declared.stop.Stop.TheVariants.{CannotWrite};
+
+    ghost from_gives = { λ _ e. e ≡ CannotWrite };
+
     fn from(_fault: WriteFault) -> Stop {
         Stop::CannotWrite
     }
 }
 
 impl From<OutOfMemory> for Stop {
+    ghost use Rattle.std.specs.Prelude.{◌≡◌};
+    ghost use Rattle.solve_dimacs.specs.declared.stop.Stop.TheVariants.{OutOfMemory};
+
+    ghost from_gives = { λ _ e. e ≡ OutOfMemory };
+
     fn from(_error: OutOfMemory) -> Stop {
         Stop::OutOfMemory
     }
 }
 
 impl<T: Drop> From<AllocFailed<T>> for Stop {
+    ghost use Rattle.std.specs.Prelude.{◌≡◌};
+    ghost use Rattle.solve_dimacs.specs.declared.stop.Stop.TheVariants.{OutOfMemory};
+
+    ghost from_gives = { λ _ e. e ≡ OutOfMemory };
+
     fn from(_error: AllocFailed<T>) -> Stop {
         Stop::OutOfMemory
     }
