@@ -1,3 +1,5 @@
+pub mod Fields
+pub mod NaturalWords
+pub mod Runs
 pub mod Splitting
-pub mod Digits
 pub mod Written

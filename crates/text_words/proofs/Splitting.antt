@@ -1,59 +1,23 @@
--- The parts of a list between the elements that pass a test.
-use Rattle.std.proofs.Common.{◌≡◌, ◌==◌, ℕ, ◌+◌, ◌<◌, ◌≤◌, suc, Bool, true, false, cond, not, List, [], ◌∷◌, length, take, drop, get_or, map, filter, inl, inr, refl, sym, ap, ◌∙◌, subst, arith, length-take}
-use Rattle.std.specs.List.{slice_split, onto_first, position_or_len, before_first, after_first}
-use Rattle.std.proofs.lemmas.List.Splits.{slice_split_first, slice_split_none, slice_split-cons_yes, slice_split-cons_no}
+-- The lines of a text and the words of a line, from the first on.
+use Rattle.std.proofs.Common.{◌≡◌, ℕ, zero, ◌+◌, ◌<◌, ◌≤◌, suc, eqb, Bool, true, false, cond, not, List, [], ◌∷◌, length, take, drop, get_or, map, filter, inl, inr, refl, sym, ap, ◌∙◌, subst, arith, length-take}
+use Rattle.std.specs.List.{slice_split, position_or_len, before_first, after_first}
+use Rattle.std.proofs.lemmas.List.Splits.{slice_split_first, slice_split_none, slice_split-cons_yes}
 use Rattle.std.proofs.lemmas.List.Sums.{fails_before_first, passes_at_first}
 use Rattle.std.proofs.lemmas.List.{take_all, drop_more, drop_all}
 use Rattle.std.proofs.lemmas.Bool.{cases_lt}
-use Rattle.text_words.specs.Lines.{lines, without_returns, without_empty_last}
+use Rattle.text_words.specs.Lines.{lines, is_some_line}
+use Rattle.text_words.specs.Text.{Rest, line_bytes, later_lines, behind_newline}
 use Rattle.text_words.specs.Words.{is_some_word, words, separates}
 use Rattle.text_words.specs.declared.words.Separators.{Separators}
+use Rattle.text_words.proofs.Fields.{length-behind_newline}
 
 -- the parts that aren't empty
 abbrev pub parts : (ℕ → Bool) → List ℕ → List (List ℕ)
 parts p xs = filter is_some_word (slice_split p xs)
 
--- a split has at least one part
-without_empty_last-cons : (x : ℕ) (xs : List ℕ) (ps : List (List ℕ)) → without_empty_last ((x ∷ xs) ∷ ps) ≡ (x ∷ xs) ∷ without_empty_last ps
-without_empty_last-cons x xs [] = refl
-without_empty_last-cons x xs (p ∷ ps) = refl
-
-pub without_empty_last-more : (p q : List ℕ) (ps : List (List ℕ)) → without_empty_last (p ∷ q ∷ ps) ≡ p ∷ without_empty_last (q ∷ ps)
-without_empty_last-more [] q ps = refl
-without_empty_last-more (x ∷ xs) q ps = refl
-
--- a part that is followed by others
-pub some_part : (p : ℕ → Bool) (xs : List ℕ) → (first : List ℕ) × (more : List (List ℕ)) × (slice_split p xs ≡ first ∷ more)
-some_part p [] = ([], [], refl)
-some_part p (x ∷ xs) =
-    let rest = some_part p xs in
-    let step : (b : Bool) → p x ≡ b → (first : List ℕ) × (more : List (List ℕ)) × (slice_split p (x ∷ xs) ≡ first ∷ more) = λ b. elim b as (λ v. p x ≡ v → (first : List ℕ) × (more : List (List ℕ)) × (slice_split p (x ∷ xs) ≡ first ∷ more)) [
-      | true ↦ λ e. ([], slice_split p xs, slice_split-cons_yes p x xs e)
-      | false ↦ λ e. (x ∷ rest.0, rest.1, slice_split-cons_no p x xs e ∙ ap (onto_first x) rest.2)
-    ] in
-    step (p x) refl
-
 -- where no element passes, the list is the one part
 split_whole : (p : ℕ → Bool) (xs : List ℕ) → position_or_len p xs ≡ length xs → slice_split p xs ≡ xs ∷ []
 split_whole p xs e = slice_split_none p xs (λ k d h. fails_before_first p xs k d (omega arith))
-
--- the first line ends at the first newline
-pub lines-first : (text : List ℕ) (end : ℕ) → end ≡ position_or_len (λ b. b == 10) text → end < length text
-    → lines text ≡ without_returns (take end text) ∷ lines (drop (end + 1) text)
-lines-first text end e h =
-    let nl : ℕ → Bool = λ b. b == 10 in
-    let inside : position_or_len nl text < length text = omega arith in
-    let rest = some_part nl (after_first nl text) in
-    ap (λ ps. map without_returns (without_empty_last ps)) (slice_split_first nl text 0 inside ∙ ap (λ ps. before_first nl text ∷ ps) rest.2)
-    ∙ ap (map without_returns) (without_empty_last-more (before_first nl text) rest.0 rest.1)
-    ∙ ap (λ ps. without_returns (before_first nl text) ∷ map without_returns (without_empty_last ps)) (sym rest.2)
-    ∙ ap (λ n. without_returns (take n text) ∷ lines (drop (n + 1) text)) (sym e)
-
--- or at the end of the text
-pub lines-last : (text : List ℕ) → 0 < length text → position_or_len (λ b. b == 10) text ≡ length text
-    → lines text ≡ without_returns text ∷ []
-lines-last [] h e = absurd (omega arith)
-lines-last (x ∷ xs) h e = ap (λ ps. map without_returns (without_empty_last ps)) (split_whole (λ b. b == 10) (x ∷ xs) e)
 
 -- separators at the front don't matter
 pub words-skip : (by : Separators) (xs : List ℕ) → words by (drop (position_or_len (λ b. not (separates by b)) xs) xs) ≡ words by xs
@@ -105,24 +69,55 @@ pub false_from_not : (b : Bool) → not b ≡ true → b ≡ false
 false_from_not true e = sym e
 false_from_not false e = refl
 
--- a text has at most as many lines as bytes
-without_empty_last-shorter : (part : List ℕ) (parts : List (List ℕ)) → length (without_empty_last parts) ≤ length (without_empty_last (part ∷ parts))
-without_empty_last-shorter [] [] = omega arith
-without_empty_last-shorter [] (q ∷ qs) = omega arith
-without_empty_last-shorter (x ∷ xs) qs = omega (arith, ap length (without_empty_last-cons x xs qs))
+-- ---- lines
 
-pub length-lines : (text : List ℕ) → length (without_empty_last (slice_split (λ b. b == 10) text)) ≤ length text
-length-lines [] = omega arith
-length-lines (x ∷ xs) =
-    let nl : ℕ → Bool = λ b. b == 10 in
-    let rest = some_part nl xs in
-    let below = length-lines xs in
-    let L : List (List ℕ) → Type 0 = λ ps. length (without_empty_last ps) ≤ length (x ∷ xs) in
-    let before : length (without_empty_last (rest.0 ∷ rest.1)) ≤ length xs = subst (λ (ps : List (List ℕ)). length (without_empty_last ps) ≤ length xs) rest.2 below in
-    let step : (b : Bool) → nl x ≡ b → L (slice_split nl (x ∷ xs)) = λ b. elim b as (λ v. nl x ≡ v → L (slice_split nl (x ∷ xs))) [
-      | true ↦ λ e. subst L (sym (slice_split-cons_yes nl x xs e ∙ ap (λ ps. [] ∷ ps) rest.2))
-          (omega (arith, ap length (without_empty_last-more [] rest.0 rest.1)))
-      | false ↦ λ e. subst L (sym (slice_split-cons_no nl x xs e ∙ ap (onto_first x) rest.2))
-          (omega (arith, ap length (without_empty_last-cons x rest.0 rest.1), without_empty_last-shorter rest.0 rest.1))
+-- the lines among these that begin before the text's end
+abbrev begun : List Rest → List (List ℕ)
+begun rs = map (λ (r : Rest). line_bytes r.bytes) (filter (λ (r : Rest). is_some_line r.bytes) rs)
+
+-- one more line
+abbrev with_line : List ℕ → List (List ℕ) → List (List ℕ)
+with_line bs ls = cond (is_some_line bs) (line_bytes bs ∷ ls) ls
+
+begun-first : (at : ℕ) (bs : List ℕ) (rs : List Rest) → begun (record { at = at; bytes = bs } ∷ rs) ≡ with_line bs (begun rs)
+begun-first at [] rs = refl
+begun-first at (b ∷ bs) rs = refl
+
+-- the lines behind the first one are those of what follows its newline, wherever they stand
+pub later-lines : (at : ℕ) (bs : List ℕ) → begun (later_lines at bs) ≡ lines (behind_newline bs)
+later-lines at [] = refl
+later-lines at (b ∷ bs) =
+    let more = later-lines (at + 1) bs in
+    let step : (t : Bool) → begun (cond t (record { at = at + 1; bytes = bs } ∷ later_lines (at + 1) bs) (later_lines (at + 1) bs)) ≡ lines (cond t bs (behind_newline bs)) = λ t. elim t as (λ v. begun (cond v (record { at = at + 1; bytes = bs } ∷ later_lines (at + 1) bs) (later_lines (at + 1) bs)) ≡ lines (cond v bs (behind_newline bs))) [
+      | true ↦ begun-first (at + 1) bs (later_lines (at + 1) bs) ∙ ap (with_line bs) (more ∙ sym (later-lines 0 bs)) ∙ sym (begun-first 0 bs (later_lines 0 bs))
+      | false ↦ more
     ] in
-    step (nl x) refl
+    step (eqb b 10)
+
+-- the first line, and those behind its newline
+pub lines-next : (text : List ℕ) → 0 < length text → lines text ≡ line_bytes text ∷ lines (behind_newline text)
+lines-next [] h = absurd (omega arith)
+lines-next (b ∷ bs) h = ap (λ ls. line_bytes (b ∷ bs) ∷ ls) (later-lines 0 (b ∷ bs))
+
+-- a text has at most as many lines as bytes
+behind_newline-shorter : (b : ℕ) (bs : List ℕ) → length (behind_newline (b ∷ bs)) ≤ length bs
+behind_newline-shorter b bs =
+    let step : (t : Bool) → length (cond t bs (behind_newline bs)) ≤ length bs = λ t. elim t as (λ v. length (cond v bs (behind_newline bs)) ≤ length bs) [
+      | true ↦ omega arith
+      | false ↦ length-behind_newline bs
+    ] in
+    step (eqb b 10)
+
+lines-few : (fuel : ℕ) (text : List ℕ) → length text ≤ fuel → length (lines text) ≤ length text
+lines-few fuel [] h = omega arith
+lines-few zero (b ∷ bs) h = absurd (omega arith)
+lines-few (suc fuel) (b ∷ bs) h =
+    let text = b ∷ bs in
+    let rest = behind_newline text in
+    let shorter = behind_newline-shorter b bs in
+    let few = lines-few fuel rest (omega arith) in
+    let next = ap length (lines-next text (omega arith)) in
+    omega (arith, few, shorter, next)
+
+pub length-lines : (text : List ℕ) → length (lines text) ≤ length text
+length-lines text = lines-few (length text) text (omega arith)

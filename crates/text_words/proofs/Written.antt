@@ -1,23 +1,23 @@
 -- Lines, words and numbers of a text that was written.
-use Rattle.std.proofs.Common.{◌≡◌, ◌==◌, ◌≢◌, ℕ, ◌<◌, ◌≤◌, ◌^◌, suc, Bool, true, false, cond, Some, None, ℤ, pos, negsuc, neg_ℤ, nat_abs, List, [], ◌∷◌, ◌++◌, length, map, filter, refl, sym, ap, ◌∙◌, arith, ◌-◌}
-use mathlib.Core.List.{reverse_aux}
+use Rattle.std.proofs.Common.{◌≡◌, ◌==◌, ◌≢◌, ℕ, ◌<◌, ◌≤◌, ◌^◌, suc, true, false, cond, Some, None, ℤ, pos, negsuc, neg_ℤ, nat_abs, eqb, length-append, List, [], ◌∷◌, ◌++◌, length, filter, refl, ap, ◌∙◌, arith}
 use Rattle.std.specs.Option.{option_map}
-use Rattle.std.specs.List.{suffix_len, prefix_len, AllByRecursion}
+use Rattle.std.specs.List.{AllByRecursion}
 use Rattle.std.specs.Fmt.{decimal, signed_decimal}
 use Rattle.std.specs.Str.{all_ascii_digits}
 use Rattle.std.specs.Str.Parse.{AllDigits, digits_value}
 use Rattle.std.proofs.lemmas.Bool.Decides.{nat_tests}
-use Rattle.std.proofs.lemmas.List.{take_all}
 use Rattle.std.proofs.lemmas.List.Elements.{All-from_recursion}
 use Rattle.std.proofs.lemmas.List.Splits.{slice_split_at, slice_split_none}
 use Rattle.std.proofs.lemmas.Str.Parse.{digit_from_value, tells_all_ascii_digits, numerals_by_value}
 use Rattle.std.proofs.lemmas.Fmt.{decimal_is_IsNumeral}
-use Rattle.text_words.specs.Lines.{lines, without_returns, without_empty_last}
+use Rattle.text_words.specs.Lines.{lines}
+use Rattle.text_words.specs.Text.{line_bytes, behind_newline}
 use Rattle.text_words.specs.Words.{is_some_word, words, separates, content}
 use Rattle.text_words.specs.Numbers.{natural_of, integer_of}
 use Rattle.text_words.specs.declared.words.Separators.{Separators}
 use Rattle.text_words.specs.declared.words.Separators.TheVariants.{Spaces, Blanks}
-use Rattle.text_words.proofs.Splitting.{some_part, without_empty_last-more, is_some_word-long}
+use Rattle.text_words.proofs.Fields.{ends_line-plain}
+use Rattle.text_words.proofs.Splitting.{lines-next, is_some_word-long}
 
 -- a byte that is neither a separator nor a line's end
 abbrev pub IsGraphic : ℕ → Type 0
@@ -40,32 +40,23 @@ graphic-in_line b h = (omega arith, omega arith)
 
 -- ---- lines
 
-each-reverse : {A : Type 0} (P : A → Type 0) (xs acc : List A) → AllByRecursion P xs → AllByRecursion P acc → AllByRecursion P (reverse_aux xs acc)
-each-reverse P [] acc each before = before
-each-reverse P (x ∷ xs) acc each before = each-reverse P xs (x ∷ acc) each.1 (each.0, before)
+line_bytes-written : (line rest : List ℕ) → AllByRecursion IsInLine line → line_bytes (line ++ 10 ∷ rest) ≡ line
+line_bytes-written [] rest each = refl
+line_bytes-written (b ∷ bs) rest each =
+    ap (λ t. cond t [] (b ∷ line_bytes (bs ++ 10 ∷ rest))) (ends_line-plain b (bs ++ 10 ∷ rest) each.0) ∙ ap (λ l. b ∷ l) (line_bytes-written bs rest each.1)
 
-no-prefix : (xs : List ℕ) → AllByRecursion IsInLine xs → prefix_len (λ b. b == 13) xs ≡ 0
-no-prefix [] each = refl
-no-prefix (x ∷ xs) each = let other : x ≢ 13 = each.0.1 in grind (arith, nat_tests)
-
-no-suffix : (line : List ℕ) → AllByRecursion IsInLine line → suffix_len (λ b. b == 13) line ≡ 0
-no-suffix line each = no-prefix (reverse_aux line []) (each-reverse IsInLine line [] each tt)
-
-without_returns-none : (line : List ℕ) → AllByRecursion IsInLine line → without_returns line ≡ line
-without_returns-none line each = let none = no-suffix line each in take_all (length line - suffix_len (λ b. b == 13) line) line (omega arith)
-
-in_line-tests : (line : List ℕ) → AllByRecursion IsInLine line → AllByRecursion (λ b. (b == 10) ≡ false) line
-in_line-tests line each = each-weaker IsInLine (λ b. (b == 10) ≡ false) (λ b h. let other : b ≢ 10 = h.0 in grind (arith, nat_tests)) line each
+behind_newline-written : (line rest : List ℕ) → AllByRecursion IsInLine line → behind_newline (line ++ 10 ∷ rest) ≡ rest
+behind_newline-written [] rest each = refl
+behind_newline-written (b ∷ bs) rest each =
+    let other : b ≢ 10 = each.0.0 in
+    let test : eqb b 10 ≡ false = grind (arith, nat_tests, other) in
+    ap (λ t. cond t (bs ++ 10 ∷ rest) (behind_newline (bs ++ 10 ∷ rest))) test ∙ behind_newline-written bs rest each.1
 
 pub lines-written : (line rest : List ℕ) → AllByRecursion IsInLine line → lines (line ++ 10 ∷ rest) ≡ line ∷ lines rest
 lines-written line rest each =
-    let nl : ℕ → Bool = λ b. b == 10 in
-    let parts = some_part nl rest in
-    let all_of : List (List ℕ) → List (List ℕ) = λ ps. map without_returns (without_empty_last ps) in
-    ap all_of (slice_split_at nl line 10 rest (All-from_recursion (λ b. (b == 10) ≡ false) line (in_line-tests line each)) refl ∙ ap (λ ps. line ∷ ps) parts.2)
-    ∙ ap (map without_returns) (without_empty_last-more line parts.0 parts.1)
-    ∙ ap (λ l. l ∷ all_of (parts.0 ∷ parts.1)) (without_returns-none line each)
-    ∙ ap (λ ps. line ∷ all_of ps) (sym parts.2)
+    let text = line ++ 10 ∷ rest in
+    lines-next text (omega (arith, length-append line (10 ∷ rest))) ∙ ap (λ l. l ∷ lines (behind_newline text)) (line_bytes-written line rest each)
+    ∙ ap (λ bs. line ∷ lines bs) (behind_newline-written line rest each)
 
 -- ---- words
 

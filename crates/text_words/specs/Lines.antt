@@ -1,17 +1,12 @@
--- The lines of a text.
-use Rattle.std.specs.Prelude.{ℕ, ◌-◌, List, [], ◌∷◌, length, take, map, ◌==◌}
-use Rattle.std.specs.List.{slice_split, suffix_len}
+-- The lines of a text, by their bytes.
+use Rattle.std.specs.Prelude.{ℕ, Bool, false, true, List, [], ◌∷◌, filter, map}
+use Rattle.text_words.specs.Text.{Rest, whole, line_bytes, all_lines}
 
--- the line without the carriage returns just before its end
-abbrev pub without_returns : List ℕ → List ℕ
-without_returns line = take (length line - suffix_len (λ b. b == 13) line) line
+-- whether a line begins before the text's end: behind a newline at the end none does
+abbrev pub is_some_line : List ℕ → Bool
+is_some_line [] = false
+is_some_line (b ∷ bs) = true
 
--- the parts between newlines, of which an empty last one is no line
-abbrev pub without_empty_last : List (List ℕ) → List (List ℕ)
-without_empty_last [] = []
-without_empty_last ([] ∷ []) = []
-without_empty_last (part ∷ parts) = part ∷ without_empty_last parts
-
--- a line ends at a newline or at the end of the text
+-- the bytes of each line, up to the line's end
 abbrev pub lines : List ℕ → List (List ℕ)
-lines text = map without_returns (without_empty_last (slice_split (λ b. b == 10) text))
+lines text = map (λ (r : Rest). line_bytes r.bytes) (filter (λ (r : Rest). is_some_line r.bytes) (all_lines (whole text)))

@@ -1,12 +1,16 @@
 //! The lines and words of a text, and the numbers that words spell.
 #![tactic(auto)]
 
+mod bytes;
+mod cursor;
+mod fault;
 mod lines;
 mod numbers;
-#[cfg(test)]
-mod tests;
 mod words;
 
+pub use bytes::digits;
+pub use cursor::{Cursor, LineEnd};
+pub use fault::LineFault;
 pub use lines::{Lines, lines_at_most_bytes};
-pub use numbers::{integer, natural, push_integer, push_natural};
+pub use numbers::{decimal_number, integer, natural, push_integer, push_natural};
 pub use words::{Separators, Words};

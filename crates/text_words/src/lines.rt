@@ -1,9 +1,9 @@
 //! The lines of a text.
 
-ghost use Rattle.std.specs.Prelude.{◌≡◌, ◌==◌, ◌<◌, ◌≤◌, ◌∷◌, length};
-ghost use Rattle.std.specs.List.{position_or_len};
-ghost use Rattle.text_words.specs.Lines.{lines, without_returns};
+ghost use Rattle.std.specs.Prelude.{◌≡◌, ◌<◌, ◌≤◌, ◌∷◌, length};
+ghost use Rattle.text_words.specs.Lines.{lines};
 
+use crate::bytes::{behind_newline, line_bytes};
 use std::marker::Model;
 
 /// The lines of a text that are still to come, from the first on. A line ends at a newline or at the end of the
@@ -54,36 +54,7 @@ fn split_line(text: &[u8]) -> (&[u8], &[u8])
     requires { 0 < length text.now }
     ensures { lines text.now ≡ result.0.now ∷ lines result.1.now }
 {
-    let end = first_newline(text);
-    let line = trim_returns(&text[..end]);
-    if end < text.len() {
-        (line, &text[end + 1..])
-    } else {
-        (line, &[])
-    }
-}
-
-/// The place of the first newline, or the length.
-fn first_newline(text: &[u8]) -> usize
-    ensures place { result ≡ position_or_len (λ b. b == 10) text.now }
-    ensures within { result ≤ length text.now }
-{
-    for (place, byte) in text.iter().enumerate() {
-        if *byte == b'\n' {
-            return place;
-        }
-    }
-    text.len()
-}
-
-fn trim_returns(line: &[u8]) -> &[u8]
-    ensures { result.now ≡ without_returns line.now }
-{
-    let mut end = line.len();
-    while end > 0 && line[end - 1] == b'\r' {
-        end -= 1;
-    }
-    &line[..end]
+    (line_bytes(text), behind_newline(text))
 }
 
 /// A text has at most as many lines as bytes.

@@ -3,7 +3,7 @@
 ghost use Rattle.std.specs.Prelude.{◌≡◌, ◌^◌, ◌++◌, min, pos, OnOk, OnErr, Some};
 ghost use Rattle.std.specs.Fmt.{decimal, signed_decimal};
 ghost use Rattle.std.specs.Option.{option_map};
-ghost use Rattle.text_words.specs.Numbers.{natural_of, integer_of, if_below};
+ghost use Rattle.text_words.specs.Numbers.{natural_of, decimal_number_of, integer_of, if_below};
 
 use itoa::Buffer;
 use std::alloc::AllocError;
@@ -25,6 +25,19 @@ pub fn natural(word: &[u8]) -> Option<u64>
             .saturating_add(u64::from(*byte - b'0'));
     }
     Some(value)
+}
+
+/// The number of 64 bits whose decimal text is the word: no sign, and no leading zeros.
+pub fn decimal_number(word: &[u8]) -> Option<u64>
+    ensures { result ≡ decimal_number_of word.now }
+{
+    let n = natural(word)?;
+    let mut buffer = Buffer::new();
+    if buffer.format(n).as_bytes() == word {
+        Some(n)
+    } else {
+        None
+    }
 }
 
 /// The integer that the word spells, where its size is below 2^63.

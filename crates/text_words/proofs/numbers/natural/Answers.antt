@@ -5,7 +5,7 @@ use Rattle.std.specs.Str.Parse.{digits_value}
 use Rattle.std.proofs.lemmas.List.{take_all}
 use Rattle.std.proofs.lemmas.Int.Digits.{digits_value_more}
 use Rattle.std.proofs.lemmas.Bool.Decides.{nat_tests}
-use Rattle.text_words.proofs.Digits.{natural_of-digits, natural_of-other, digit_value-digit}
+use Rattle.text_words.proofs.NaturalWords.{natural_of-digits, natural_of-other, digit_value-digit}
 use Rattle.text_words.proofs.numbers.natural.Goals as goal
 
 pub returns-then-not-is_ascii_digit : goal.returns-then-not-is_ascii_digit
