@@ -3,5 +3,4 @@ pub mod Goals
 pub mod Lists
 pub mod Paths
 pub mod Replays
-pub mod Runs
 pub mod Sections

@@ -4,17 +4,16 @@ use Rattle.std.proofs.lemmas.List.{length-map, length-take-le, get_or_push, get_
 use Rattle.std.proofs.lemmas.List.Elements.{All-nil, All-push, All-get_or}
 use Rattle.ketch_base.specs.First.{IsFirst}
 use Rattle.aig_model.specs.WellFormed.{IsCircuit}
-use Rattle.aig_model.specs.Meaning.{Assignment, IsStep, IsLegal, IsReset, Path, At, Reachable, input_values, next_values, goal_of}
+use Rattle.aig_model.specs.Meaning.{Assignment, IsStep, IsLegal, IsReset, Path, At, Reachable, input_values, next_values, state_after, goal_of}
 use Rattle.aig_model.specs.Replays.{Shows}
 use Rattle.aig_model.specs.declared.parts.Parts.{Parts}
 use Rattle.aig_model.specs.declared.trace.Trace.{Trace}
-use Rattle.aig_eval.specs.Laws.{state_after}
 use Rattle.aig_eval.specs.Replay.{FailsAt, HasShape, StartsWrong, MayStop}
 use Rattle.aig_eval.specs.declared.fault.ReplayFault.{ReplayFault}
 use Rattle.aig_eval.specs.declared.fault.ReplayFault.TheVariants.{Shape, NotReset, Constraint, OutOfMemory}
 use Rattle.aig_eval.proofs.Lists.{first_once}
 use Rattle.aig_eval.proofs.Sections.{some_latch}
-use Rattle.aig_eval.proofs.Paths.{path_none, path_push, path_take, one_path, state_after-push}
+use Rattle.aig_model.proofs.Paths.{path_none, path_push, path_take, one_path, state_after-push}
 
 -- ---- what is shown
 frame_count : (c : Parts) (frames : List Assignment) (rows : List (List Bool)) → map (input_values c) frames ≡ rows → length frames ≡ length rows

@@ -11,10 +11,7 @@ mod step;
 
 pub use fault::ReplayFault;
 pub use goal::goal_of;
-pub use laws::{
-    at_after, at_step, goal_below, one_path, path_append, path_push, run_append, shown_at,
-    shown_is_reachable, shown_once, some_path, some_step,
-};
+pub use laws::{shown_at, shown_is_reachable, shown_once, some_path, some_step};
 pub use replaying::replay;
 pub use state::{is_legal, next_state};
 pub use step::step_values;

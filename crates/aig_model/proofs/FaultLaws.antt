@@ -2,10 +2,11 @@
 use Rattle.std.proofs.Common.{◌≡◌, ◌≢◌, ℕ, ◌⊎◌, inl, inr, refl, ap, All, AllPairs, Result, Ok, Err, IfErr, OnOk}
 use Rattle.std.proofs.lemmas.Bool.{false≢true}
 use Rattle.aig_model.specs.WellFormed.{literals, definers, uses, defined, IsInRange, IsDefining, IsKnown, IsOrdered, IsCircuit}
-use Rattle.aig_model.specs.Faults.{IsFirstWrong, IsNewDefiner, IsMisplaced, IsRangeFault, Says, OkExactly, ErrExactly}
+use Rattle.aig_model.specs.Faults.{IsFirstWrong, IsNewDefiner, IsMisplaced, IsRangeFault, Says}
 use Rattle.aig_model.specs.declared.parts.Parts.{Parts}
 use Rattle.aig_model.specs.declared.fault.BuildFault.{BuildFault}
 use Rattle.aig_model.specs.declared.fault.BuildFault.TheVariants.{Range, Defined, Undefined, Order, OutOfMemory}
+use Rattle.ketch_base.specs.Exactly.{OkExactly, ErrExactly}
 use Rattle.ketch_base.specs.First.{IsFirst}
 use Rattle.aig_model.proofs.Rightness.{right_has_no_wrong, first_wrong_is_one, first_is_one}
 use Rattle.aig_model.proofs.Building.{definers_right}
@@ -56,7 +57,7 @@ one_fault c (Order l) (Order m) other x y = inl (ap Order (first_is_one (IsMispl
 one_fault c (Order l) OutOfMemory other x y = absurd (other refl)
 
 -- ---- where each answer comes
-pub ok_exactly : {T : Type 0} (c : Parts) (result : Result T BuildFault) → OnOk result (IsCircuit c) → IfErr result (Says c) → OkExactly result (IsCircuit c)
+pub ok_exactly : {T : Type 0} (c : Parts) (result : Result T BuildFault) → OnOk result (IsCircuit c) → IfErr result (Says c) → OkExactly OutOfMemory result (IsCircuit c)
 ok_exactly c (Ok value) ok err = record { only = λ _. ok; comes = λ _. inl refl }
 ok_exactly c (Err fault) ok err = record {
   only = λ h. absurd (false≢true h);
@@ -64,7 +65,7 @@ ok_exactly c (Err fault) ok err = record {
 }
 
 pub err_exactly : {T : Type 0} (c : Parts) (fault : BuildFault) (result : Result T BuildFault) → fault ≢ OutOfMemory → OnOk result (IsCircuit c) → IfErr result (Says c)
-    → ErrExactly result fault (Says c fault)
+    → ErrExactly OutOfMemory result fault (Says c fault)
 err_exactly c fault (Ok value) other ok err = record {
   only = λ e. (let none = e in cc);
   comes = λ says. absurd (other (circuit_leaves_memory c fault ok says));

@@ -1,10 +1,15 @@
 pub mod Building
+pub mod DefinedVariables
+pub mod Dependence
 pub mod Elements
 pub mod FaultLaws
 pub mod GateOrder
+pub mod LatchClauses
 pub mod Marks
 pub mod OneAssignment
 pub mod OneGoal
 pub mod Packed
+pub mod Paths
 pub mod Rightness
+pub mod Runs
 pub mod Tables

@@ -1,5 +1,5 @@
 -- What keeps parts from being a circuit. The kinds of fault are tried one after another, and each names its first place.
-use Rattle.std.specs.Prelude.{ℕ, ◌<◌, ◌≡◌, ◌≢◌, ◌⊎◌, List, map, length, get_or, take, drop, All, AllPairs, Contains, Result, Err, IsOk, slice_get, Some}
+use Rattle.std.specs.Prelude.{ℕ, ◌<◌, ◌≡◌, ◌≢◌, ◌⊎◌, List, map, length, get_or, take, drop, All, AllPairs, Contains, slice_get, Some}
 use Rattle.ketch_base.specs.First.{IsFirst}
 use Rattle.aig_model.specs.Literal.{var}
 use Rattle.aig_model.specs.WellFormed.{literals, definers, defined, uses, left_sides, IsInRange, IsDefining, IsKnown}
@@ -56,12 +56,3 @@ Says c (Defined lit) = IsDefinedFault c lit
 Says c (Undefined lit) = IsUndefinedFault c lit
 Says c (Order gate) = IsOrderFault c gate
 Says c OutOfMemory = Unit {0}
-
--- ---- where an answer comes: there and nowhere else, but that want of memory may come in its place
-pub record OkExactly {T : Type 0} (result : Result T BuildFault) (Cause : Type 0) : Type 0 where
-  pub only : IsOk result → Cause
-  pub comes : Cause → IsOk result ⊎ (result ≡ Err OutOfMemory)
-
-pub record ErrExactly {T : Type 0} (result : Result T BuildFault) (fault : BuildFault) (Cause : Type 0) : Type 0 where
-  pub only : result ≡ Err fault → Cause
-  pub comes : Cause → (result ≡ Err fault) ⊎ (result ≡ Err OutOfMemory)

@@ -1,5 +1,7 @@
+pub mod Dependence
 pub mod Faults
 pub mod Goals
+pub mod LatchClauses
 pub mod Laws
 pub mod Literal
 pub mod Marks

@@ -75,6 +75,11 @@ pub record Path (c : Parts) (state : List Bool) (frames : List Assignment) : Typ
   pub start : 0 < length frames → latch_values c (get_or frames 0 []) ≡ state
   pub next : (t : ℕ) → t + 1 < length frames → latch_values c (get_or frames (t + 1) []) ≡ next_values c (get_or frames t [])
 
+-- the state that the last of these assignments hands on; with none it is the start
+abbrev pub state_after : Parts → List Bool → List Assignment → List Bool
+state_after c state [] = state
+state_after c state (a ∷ frames) = state_after c (next_values c a) frames
+
 -- a path of at least one assignment, each of them legal
 pub record Run (c : Parts) (state : List Bool) (frames : List Assignment) : Type 0 where
   pub some : 0 < length frames

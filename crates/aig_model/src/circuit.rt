@@ -2,7 +2,8 @@
 
 ghost use Rattle.std.specs.Prelude.{◌≡◌, ℕ, IfOk};
 ghost use Rattle.aig_model.specs.WellFormed.{IsSized, AreNames, IsCircuit};
-ghost use Rattle.aig_model.specs.Faults.{OkExactly, ErrExactly, IsRangeFault, IsDefinedFault, IsUndefinedFault, IsOrderFault};
+ghost use Rattle.ketch_base.specs.Exactly.{OkExactly, ErrExactly};
+ghost use Rattle.aig_model.specs.Faults.{IsRangeFault, IsDefinedFault, IsUndefinedFault, IsOrderFault};
 
 use crate::build::check;
 use crate::fault::BuildFault;
@@ -41,11 +42,11 @@ impl Circuit {
         requires sized { IsSized parts }
         requires names { AreNames parts }
         ensures value { IfOk result (λ circuit. circuit ≡ parts) }
-        ensures ok { OkExactly result (IsCircuit parts) }
-        ensures range { (lit : ℕ) → ErrExactly result (BuildFault.Range lit) (IsRangeFault parts lit) }
-        ensures defined { (lit : ℕ) → ErrExactly result (BuildFault.Defined lit) (IsDefinedFault parts lit) }
-        ensures undefined { (lit : ℕ) → ErrExactly result (BuildFault.Undefined lit) (IsUndefinedFault parts lit) }
-        ensures order { (gate : ℕ) → ErrExactly result (BuildFault.Order gate) (IsOrderFault parts gate) }
+        ensures ok { OkExactly BuildFault.OutOfMemory result (IsCircuit parts) }
+        ensures range { (lit : ℕ) → ErrExactly BuildFault.OutOfMemory result (BuildFault.Range lit) (IsRangeFault parts lit) }
+        ensures defined { (lit : ℕ) → ErrExactly BuildFault.OutOfMemory result (BuildFault.Defined lit) (IsDefinedFault parts lit) }
+        ensures undefined { (lit : ℕ) → ErrExactly BuildFault.OutOfMemory result (BuildFault.Undefined lit) (IsUndefinedFault parts lit) }
+        ensures order { (gate : ℕ) → ErrExactly BuildFault.OutOfMemory result (BuildFault.Order gate) (IsOrderFault parts gate) }
     {
         check(alloc, &parts)?;
         Ok(Circuit { parts })

@@ -15,8 +15,6 @@ mod parts;
 mod range;
 mod rows;
 mod signals;
-#[cfg(test)]
-mod tests;
 mod trace;
 mod uses;
 
@@ -25,7 +23,11 @@ pub use circuit::Circuit;
 pub use fault::BuildFault;
 pub use goals::Goals;
 pub use latch_clause::{LatchClause, LatchClauses};
-pub use laws::{one_assignment, one_goal};
+pub use laws::{
+    at_after, at_step, barred_is_unreachable, definers_within_top, goal_below, least_dependence,
+    one_assignment, one_goal, one_path, path_append, path_end, path_front, path_latches, path_push,
+    run_append, run_end, run_front, run_push, shown_by_run, state_after_append,
+};
 pub use lit::Lit;
 pub use parts::{
     AndGate, Gates, Kind, Latch, Latches, Lits, Name, Named, Names, Parts, Place, Reset,

@@ -2,7 +2,7 @@ use Rattle.std.proofs.Common.{◌≡◌, true, false, List, Bool, arith, subst, 
 use Rattle.std.proofs.lemmas.List.{take_all}
 use Rattle.aig_model.specs.Meaning.{IsStep, IsLegal}
 use Rattle.aig_eval.proofs.Replays.{found_none, found_more, found_fails}
-use Rattle.aig_eval.proofs.Paths.{length-state_after}
+use Rattle.aig_model.proofs.Paths.{length-state_after}
 use Rattle.aig_eval.proofs.replaying.replay_rows.Goals as goal
 
 pub loop-step-init : goal.loop-step-init

@@ -1,5 +1,0 @@
-use Rattle.aig_eval.proofs.Paths as lemmas
-use Rattle.aig_eval.proofs.laws.path_push.Goals as goal
-
-pub returns : goal.returns
-returns c = lemmas.path_push

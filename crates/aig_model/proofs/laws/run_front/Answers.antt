@@ -1,0 +1,5 @@
+use Rattle.aig_model.proofs.Runs as lemmas
+use Rattle.aig_model.proofs.laws.run_front.Goals as goal
+
+pub returns : goal.returns
+returns c = lemmas.run_front
