@@ -6,10 +6,11 @@ use Rattle.aig_model.specs.WellFormed.{left_sides}
 use Rattle.aig_model.specs.declared.parts.AndGate.{AndGate}
 use Rattle.aig_model.specs.declared.parts.Parts.{Parts}
 use Rattle.gate_order.specs.GateOrder.{DefineApart, IsGateOrder, IsCycle}
-use Rattle.aig_ascii.specs.Text.{Rest, next_line, lines_of, after_lines}
+use Rattle.gate_order.specs.StandingGates.{StandInOrder}
+use Rattle.text_words.specs.Text.{Rest, next_line, lines_of, after_lines, whole}
 use Rattle.aig_ascii.specs.Demands.{Demand, never, AllMet, IsFirstUnmet}
 use Rattle.aig_ascii.specs.Sections.{number_at, gate_of, latch_of}
-use Rattle.aig_ascii.specs.Aag.{whole, layout_of, parts_in, demands, SpellsCircuit, HasCycle, IsFirstFault, IsFault, Answers}
+use Rattle.aig_ascii.specs.Aag.{layout_of, parts_in, demands, SpellsCircuit, HasCycle, IsFirstFault, IsFault, Answers}
 use Rattle.aig_ascii.specs.ReadSections.{lines_before, IsGatePlace, IsOrderFault}
 use Rattle.gate_order.specs.declared.order.fault.OrderFault.{OrderFault}
 use Rattle.gate_order.specs.declared.order.fault.OrderFault.TheVariants as orders
@@ -20,6 +21,7 @@ use Rattle.aig_ascii.specs.declared.fault.AagFault.{AagFault}
 use Rattle.aig_ascii.specs.declared.fault.AagFault.TheVariants as faults
 use Rattle.gate_order.proofs.Depends.{depends_inside, order_or_cycle, one_cycle}
 use Rattle.gate_order.proofs.OrderedGates.{one_order}
+use Rattle.gate_order.proofs.Standing.{own_order}
 use Rattle.aig_ascii.proofs.RightParts.{length-lines, length-items, text-apart}
 use Rattle.aig_ascii.proofs.RightSections.{left_sides-lines}
 use Rattle.aig_ascii.proofs.Unmet.{Unmet, first_unmet-behind}
@@ -88,6 +90,13 @@ this-fault text faults.OutOfMemory at kind f h = inr refl
 pub circuit-spelled : (text : List ℕ) (gates : List AndGate) (c : Parts) → first_unmet (demands text) ≡ None → IsGateOrder (parts_in (layout_of text)).gates gates → c ≡ record (parts_in (layout_of text)) { gates = gates }
     → SpellsCircuit text c
 circuit-spelled text gates c met order is = record { right = all-met (demands text) met; gates = gates; ordered = order; parts = is }
+
+-- the parts that are read, whose gates stand in order
+pub standing-spelled : (text : List ℕ) (parts c : Parts) → first_unmet (demands text) ≡ None → parts ≡ parts_in (layout_of text) → StandInOrder parts.gates → c ≡ parts → SpellsCircuit text c
+standing-spelled text parts c met is stand same =
+    let read = parts_in (layout_of text) in
+    let order = own_order read.gates (subst (λ (x : Parts). StandInOrder x.gates) is stand) in
+    circuit-spelled text read.gates c met order (same ∙ is)
 
 pub one-circuit : (text : List ℕ) (c d : Parts) → DefineApart (parts_in (layout_of text)).gates → SpellsCircuit text c → SpellsCircuit text d → c ≡ d
 one-circuit text c d apart s t =

@@ -4,7 +4,7 @@ use Rattle.std.proofs.lemmas.List.{map-append, append-nil}
 use Rattle.aig_model.specs.WellFormed.{latch_lits, left_sides, definers}
 use Rattle.aig_model.specs.declared.parts.Latch.{Latch}
 use Rattle.aig_model.specs.declared.parts.AndGate.{AndGate}
-use Rattle.aig_ascii.specs.Text.{Rest, number, lines_of, after_lines}
+use Rattle.text_words.specs.Text.{Rest, number, lines_of, after_lines}
 use Rattle.aig_ascii.specs.Sections.{Form, input, latch, plain, gate, number_at, latch_of, gate_of, lits_of, section_demands, section_uses, use_demands, defines, is_known}
 use Rattle.aig_ascii.specs.Drafts.{Draft, definers_of, use_of, pending_demands, Covers, StandFor}
 use Rattle.aig_ascii.specs.Reading.{first_unmet, Fails}

@@ -3,7 +3,7 @@ use Rattle.std.proofs.Common.{◌≡◌, ℕ, zero, suc, is_some, ◌+◌, ◌-�
 use Rattle.std.proofs.lemmas.List.{map-append, append-nil}
 use Rattle.std.proofs.lemmas.List.Concat.{flat_map-append}
 use Rattle.aig_model.specs.Literal.{var}
-use Rattle.aig_ascii.specs.Text.{Rest, word, fields, number, next_line, lines_of, after_lines}
+use Rattle.text_words.specs.Text.{Rest, word, fields, number, next_line, lines_of, after_lines}
 use Rattle.aig_ascii.specs.Demands.{Demand, demand}
 use Rattle.aig_ascii.specs.Fields.{optional, want_demands, wants_demands, none_demands, line_demands}
 use Rattle.aig_ascii.specs.Sections.{Form, input, latch, plain, gate, defines, defining, literal, is_reset, wants_of, defined_by, used_by, section_demands, section_uses, number_at, lits_of}

@@ -1,9 +1,9 @@
 -- What is asked of a header, behind its magic word.
 use Rattle.std.proofs.Common.{◌≡◌, ℕ, Bool, true, false, cond, nat_eq, None, Some, List, [], ◌∷◌, ◌++◌, drop, get_or, refl, sym, ap, ◌∙◌, subst}
 use Rattle.std.specs.List.{starts_with}
-use Rattle.aig_ascii.specs.Text.{Rest, fields, later_fields}
+use Rattle.text_words.specs.Text.{Rest, fields, later_fields, PassesField, PassesFields}
 use Rattle.aig_ascii.specs.Demands.{Demand, demand}
-use Rattle.aig_ascii.specs.Fields.{PassesField, PassesFields, wanted, want_demands, wants_demands, none_demands}
+use Rattle.aig_ascii.specs.Fields.{missing_at, wanted, want_demands, wants_demands, none_demands}
 use Rattle.aig_ascii.specs.Header.{header_fields, header_wants, header_demands, sizes_of, within_limit}
 use Rattle.aig_ascii.specs.Reading.{first_unmet, Fails}
 use Rattle.aig_ascii.specs.declared.header.Sizes.{Sizes}
@@ -23,7 +23,7 @@ past-magic : (magic : List ℕ) (fits : Sizes → Bool) (r : Rest) → Starts ma
 past-magic magic fits r starts = ap (λ t. cond t (first_unmet (behind_magic fits r)) (Some (r.at, Header))) starts
 
 wants-passed : (r s : Rest) → PassesField r s → wants_demands s (fields s) header_wants ≡ wants_demands r (header_fields r) header_wants
-wants-passed r s p = ap (λ fs. wants_demands s fs header_wants) p.others ∙ wants_demands-same r s (header_fields r) header_wants p.end
+wants-passed r s p = ap (λ fs. wants_demands s fs header_wants) p.others ∙ wants_demands-same r s (header_fields r) header_wants (ap missing_at p.end)
 
 pub met-front : (xs ys : List Demand) → first_unmet (xs ++ ys) ≡ None → first_unmet xs ≡ None
 met-front xs ys e =

@@ -3,13 +3,11 @@ pub mod Body
 pub mod Counted
 pub mod Defined
 pub mod Heads
-pub mod Lines
 pub mod NameRanks
 pub mod RightLines
 pub mod RightParts
 pub mod RightSections
 pub mod RightSymbols
-pub mod Runs
 pub mod Slots
 pub mod SpelledBody
 pub mod SpelledHeader
@@ -17,6 +15,7 @@ pub mod SpelledLines
 pub mod SpelledSections
 pub mod SpelledSymbols
 pub mod SymbolLines
+pub mod Texts
 pub mod Unmet
 pub mod Wants
 pub mod WholeText

@@ -6,7 +6,7 @@ use Rattle.std.proofs.lemmas.List.{append-nil}
 use Rattle.text_words.specs.Numbers.{natural_of}
 use Rattle.aig_model.specs.Literal.{var}
 use Rattle.aig_model.specs.WellFormed.{IsInRange, IsDefining, latch_lits, left_sides, latch_literals, gate_literals, next_lits, gate_inputs}
-use Rattle.aig_ascii.specs.Text.{Rest, word, line_bytes, has_newline, number, fields, next_line, lines_of}
+use Rattle.text_words.specs.Text.{Rest, word, line_bytes, has_newline, number, fields, next_line, lines_of}
 use Rattle.aig_ascii.specs.Demands.{Demand, demand, never}
 use Rattle.aig_ascii.specs.Fields.{Test, Want, wanted, optional, missing, want_demands, wants_demands, none_demands, line_demands}
 use Rattle.aig_ascii.specs.Sections.{Form, input, latch, plain, gate, number_at, defines, in_range, is_new, is_reset, defining, literal, wants_of, defined_by, used_by, section_demands, section_uses, section_defines, latch_of, gate_of, lits_of}
@@ -29,9 +29,7 @@ met-first d ds e =
     step d.met e
 
 missing-unmet : (r : Rest) → (missing r).met ≡ false
-missing-unmet r =
-    let by : (t : Bool) → (cond t (never (r.at + length (line_bytes r.bytes)) Number) (never (r.at + length r.bytes) Truncated)).met ≡ false = λ t. elim t as (λ v. (cond v (never (r.at + length (line_bytes r.bytes)) Number) (never (r.at + length r.bytes) Truncated)).met ≡ false) [ true ↦ refl | false ↦ refl ] in
-    by (has_newline r.bytes)
+missing-unmet r = refl
 
 -- a field that stands where it must
 pub record Stands (tests : List Test) (fs : List Rest) : Type 0 where

@@ -14,11 +14,11 @@ use Rattle.aig_model.specs.declared.parts.Named.{Named}
 use Rattle.gate_order.specs.GateOrder.{DefineApart}
 use Rattle.gate_order.specs.OrderLaws.{IsUnordered}
 use Rattle.gate_order.proofs.OrderedGates.{apart_from_defined}
-use Rattle.aig_ascii.specs.Text.{Rest, number, lines_of, all_lines}
+use Rattle.text_words.specs.Text.{Rest, number, lines_of, all_lines, whole}
 use Rattle.aig_ascii.specs.Header.{AreFew, header_demands}
 use Rattle.aig_ascii.specs.Sections.{Form, input, latch, plain, gate, number_at, is_known, section_demands, section_uses, use_demands, latch_of, gate_of, lits_of}
 use Rattle.aig_ascii.specs.Symbols.{symbol_lines, symbol_demands, symbols_of, exists_in}
-use Rattle.aig_ascii.specs.Aag.{Layout, whole, fits, layout_of, parts_in, uses_in, body_demands, demands}
+use Rattle.aig_ascii.specs.Aag.{Layout, fits, layout_of, parts_in, uses_in, body_demands, demands}
 use Rattle.aig_ascii.specs.ReadSections.{behind_header}
 use Rattle.aig_ascii.specs.Reading.{first_unmet}
 use Rattle.aig_ascii.proofs.Heads.{met-front}

@@ -9,7 +9,7 @@ use Rattle.aig_model.specs.Literal.{var}
 use Rattle.aig_model.specs.WellFormed.{IsInRange, IsDefining, IsKnown, latch_lits, left_sides, latch_literals, gate_literals, next_lits, gate_inputs, defined}
 use Rattle.aig_model.specs.declared.parts.Parts.{Parts}
 use Rattle.aig_model.proofs.Elements.{Contains-head, Contains-later}
-use Rattle.aig_ascii.specs.Text.{Rest, number, fields, next_line, lines_of}
+use Rattle.text_words.specs.Text.{Rest, number, fields, next_line, lines_of}
 use Rattle.aig_ascii.specs.Demands.{Demand, demand}
 use Rattle.aig_ascii.specs.Fields.{line_demands}
 use Rattle.aig_ascii.specs.Sections.{Form, input, latch, plain, gate, number_at, defines, is_known, wants_of, defined_by, used_by, section_demands, section_uses, use_demands, latch_of, gate_of, lits_of}

@@ -12,7 +12,7 @@ use Rattle.aig_model.specs.declared.parts.Place.{Place}
 use Rattle.aig_model.specs.declared.parts.Place.TheVariants as places
 use Rattle.aig_model.specs.declared.parts.Named.{Named}
 use Rattle.aig_model.proofs.Elements.{Contains-cons_cases, Contains-nil}
-use Rattle.aig_ascii.specs.Text.{Rest, ends_line, line_bytes, leading_digits, behind_digits}
+use Rattle.text_words.specs.Text.{Rest, ends_line, line_bytes, leading_digits, behind_digits}
 use Rattle.aig_ascii.specs.Demands.{demand}
 use Rattle.aig_ascii.specs.Symbols.{is_empty, symbol_on, symbol_demands, symbols_of, place_at, name_behind, named, symbol_of, exists_in, same_place, is_named, is_right}
 use Rattle.aig_ascii.specs.Reading.{first_unmet}

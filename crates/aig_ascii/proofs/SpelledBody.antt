@@ -11,7 +11,7 @@ use Rattle.aig_model.specs.declared.parts.AndGate.{AndGate}
 use Rattle.aig_model.specs.declared.parts.Reset.{Reset}
 use Rattle.aig_model.specs.declared.parts.Reset.TheVariants.{Zero, One, Free}
 use Rattle.aig_model.specs.declared.parts.Parts.{Parts}
-use Rattle.aig_ascii.specs.Text.{Rest, lines_of, after_lines, fields, number}
+use Rattle.text_words.specs.Text.{Rest, lines_of, after_lines, fields, number}
 use Rattle.aig_ascii.specs.Demands.{Demand, AllMet}
 use Rattle.aig_ascii.specs.Sections.{in_range, is_reset, is_known, Form, section_demands, section_uses, use_demands, reset_of, latch_of, gate_of, lits_of}
 use Rattle.aig_ascii.specs.Sections.Form.{input, latch, plain, gate}

@@ -10,7 +10,7 @@ use Rattle.aig_model.specs.WellFormed.{limit, latch_lits, left_sides, definers, 
 use Rattle.aig_model.specs.declared.parts.Latch.{Latch}
 use Rattle.aig_model.specs.declared.parts.AndGate.{AndGate}
 use Rattle.aig_model.specs.declared.parts.Parts.{Parts}
-use Rattle.aig_ascii.specs.Text.{Rest}
+use Rattle.text_words.specs.Text.{Rest}
 use Rattle.aig_ascii.specs.Demands.{AllMet}
 use Rattle.aig_ascii.specs.Fields.{optional, wants_demands}
 use Rattle.aig_ascii.specs.Header.{header_fields, sizes_in, within_limit, no_liveness, header_wants, header_demands}

@@ -5,7 +5,7 @@ use Rattle.std.specs.Fmt.{decimal}
 use Rattle.std.proofs.lemmas.Bool.Decides.{nat_tests}
 use Rattle.text_words.specs.Numbers.{natural_of}
 use Rattle.text_words.proofs.Written.{natural_of-decimal, decimal-digits, decimal-some, each-append, each-weaker}
-use Rattle.aig_ascii.specs.Text.{Rest, ends_line, line_after, next_line, is_gap, word, later_fields, fields, number}
+use Rattle.text_words.specs.Text.{Rest, ends_line, line_after, next_line, is_gap, word, later_fields, fields, number}
 use Rattle.aig_ascii.specs.Demands.{Demand, AllMet}
 use Rattle.aig_ascii.specs.Fields.{Test, Want, missing, field_demands, want_demands, wants_demands, none_demands}
 use Rattle.aig_ascii.specs.CircuitText.{spaced}

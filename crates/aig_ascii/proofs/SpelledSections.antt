@@ -5,7 +5,7 @@ use Rattle.std.proofs.lemmas.Bool.Decides.{nat_tests}
 use Rattle.std.proofs.lemmas.List.{map-append, take-map, drop-map}
 use Rattle.aig_model.specs.Literal.{var}
 use Rattle.aig_model.proofs.Elements.{Contains-nil, Contains-cons_cases, Contains-head, Contains-later}
-use Rattle.aig_ascii.specs.Text.{Rest, next_line, lines_of, after_lines, fields, number}
+use Rattle.text_words.specs.Text.{Rest, next_line, lines_of, after_lines, fields, number}
 use Rattle.aig_ascii.specs.Demands.{AllMet}
 use Rattle.aig_ascii.specs.Fields.{Want, line_demands, wants_demands, none_demands}
 use Rattle.aig_ascii.specs.Sections.{number_at, defines, is_known, defining, literal, is_reset, Form, wants_of, defined_by, used_by, section_demands, section_uses, use_demands}

@@ -15,7 +15,7 @@ use Rattle.aig_model.specs.declared.parts.Parts.{Parts}
 use Rattle.aig_model.specs.declared.parts.Named.{Named}
 use Rattle.aig_model.specs.declared.parts.Place.{Place}
 use Rattle.aig_model.specs.declared.parts.Place.TheVariants.{Input, Latch as InLatch, Output, Bad, Constraint}
-use Rattle.aig_ascii.specs.Text.{Rest, ends_line, line_bytes, later_lines, all_lines, leading_digits, behind_digits}
+use Rattle.text_words.specs.Text.{Rest, ends_line, line_bytes, later_lines, all_lines, leading_digits, behind_digits}
 use Rattle.aig_ascii.specs.Demands.{AllMet}
 use Rattle.aig_ascii.specs.Symbols.{begins_with_digit, begins_comment, is_empty, symbol_lines, place_at, name_behind, named, symbol_of, symbol_on, exists_in, same_place, is_named, is_right, symbol_demands, symbols_of}
 use Rattle.aig_ascii.specs.declared.header.Sizes.{Sizes}

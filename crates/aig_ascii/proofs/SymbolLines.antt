@@ -13,16 +13,16 @@ use Rattle.aig_model.specs.WellFormed.{limit}
 use Rattle.aig_model.specs.declared.parts.Place.{Place}
 use Rattle.aig_model.specs.declared.parts.Place.TheVariants as places
 use Rattle.aig_model.specs.declared.parts.Named.{Named}
-use Rattle.aig_ascii.specs.Text.{Rest, ends_line, line_bytes, line_after, next_line, later_lines, all_lines, leading_digits, behind_digits}
+use Rattle.text_words.specs.Text.{Rest, ends_line, line_bytes, line_after, next_line, later_lines, all_lines, leading_digits, behind_digits, digits_after}
 use Rattle.aig_ascii.specs.Demands.{Demand, demand}
 use Rattle.aig_ascii.specs.Header.{AreFew}
 use Rattle.aig_ascii.specs.Symbols.{begins_comment, is_empty, symbol_lines, symbol_on, symbol_demands, symbols_of, place_at, name_behind, named, symbol_of, exists_in, same_place, is_named, is_right}
 use Rattle.aig_ascii.specs.SymbolTables.{Table, if_exists, place_within, exists_symbol, slot, symbol_line_demands}
-use Rattle.aig_ascii.specs.Reading.{digits_after, first_unmet, Fails}
+use Rattle.aig_ascii.specs.Reading.{first_unmet, Fails}
 use Rattle.aig_ascii.specs.declared.header.Sizes.{Sizes}
 use Rattle.aig_ascii.specs.declared.fault.AagFault.{AagFault}
 use Rattle.aig_ascii.specs.declared.fault.AagKind.TheVariants.{Symbol}
-use Rattle.aig_ascii.proofs.Lines.{length-behind_digits}
+use Rattle.text_words.proofs.Fields.{length-behind_digits}
 use Rattle.aig_ascii.proofs.Unmet.{Unmet, first_unmet-behind, fails-front}
 
 -- ---- the digits of a symbol

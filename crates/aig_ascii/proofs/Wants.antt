@@ -1,11 +1,10 @@
 -- The first fault of a line whose first fields are right.
 use Rattle.std.proofs.Common.{◌≡◌, ℕ, zero, suc, ◌+◌, ◌<◌, ◌≤◌, Bool, true, false, cond, None, List, [], ◌∷◌, ◌++◌, length, map, take, drop, get_or, refl, sym, ap, ◌∙◌, subst, append_assoc, arith}
-use Rattle.aig_ascii.specs.Text.{Rest, ends_line, line_bytes, has_newline, later_fields, fields, number}
-use Rattle.aig_ascii.specs.Demands.{Demand, never}
-use Rattle.aig_ascii.specs.Fields.{Test, Want, wanted, missing, PassesField, PassesFields, want_demands, wants_demands, none_demands, line_demands}
+use Rattle.text_words.specs.Text.{Rest, ends_line, later_fields, fields, number, PassesField, PassesFields}
+use Rattle.aig_ascii.specs.Demands.{Demand}
+use Rattle.aig_ascii.specs.Fields.{Test, Want, wanted, missing, missing_at, want_demands, wants_demands, none_demands, line_demands}
 use Rattle.aig_ascii.specs.Reading.{first_unmet, Fails}
 use Rattle.aig_ascii.specs.declared.fault.AagFault.{AagFault}
-use Rattle.aig_ascii.specs.declared.fault.AagKind.TheVariants.{Number, Truncated}
 use Rattle.aig_ascii.proofs.Unmet.{fails-front, fails-behind, first_unmet-behind}
 
 -- what is asked of fields depends on where the line ends, and on no more of it
@@ -17,12 +16,8 @@ want_demands-same r s w (f ∷ fs) e = refl
 pub field-there : (s : Rest) (tests : List Test) → first_unmet (want_demands s (wanted tests) (fields s)) ≡ None → fields s ≡ s ∷ later_fields s.at s.bytes
 field-there s tests met =
     let all = s ∷ later_fields s.at s.bytes in
-    let by_newline : (n : Bool) → first_unmet (cond n (never (s.at + length (line_bytes s.bytes)) Number) (never (s.at + length s.bytes) Truncated) ∷ []) ≡ None → fields s ≡ all = λ n. elim n as (λ v. first_unmet (cond v (never (s.at + length (line_bytes s.bytes)) Number) (never (s.at + length s.bytes) Truncated) ∷ []) ≡ None → fields s ≡ all) [
-      | true ↦ λ h. cc
-      | false ↦ λ h. cc
-    ] in
     let step : (e : Bool) → ends_line s.bytes ≡ e → first_unmet (want_demands s (wanted tests) (cond e [] all)) ≡ None → fields s ≡ all = λ e. elim e as (λ v. ends_line s.bytes ≡ v → first_unmet (want_demands s (wanted tests) (cond v [] all)) ≡ None → fields s ≡ all) [
-      | true ↦ λ is h. by_newline (has_newline s.bytes) h
+      | true ↦ λ is h. cc
       | false ↦ λ is h. ap (λ t. cond t [] all) is
     ] in
     step (ends_line s.bytes) refl met
@@ -74,7 +69,7 @@ wants_demands-same r s fs [] e = refl
 wants_demands-same r s fs (w ∷ ws) e = ap (λ ds. ds ++ wants_demands s (drop 1 fs) ws) (want_demands-same r s w fs e) ∙ ap (λ ds. want_demands r w fs ++ ds) (wants_demands-same r s (drop 1 fs) ws e)
 
 wants_demands-passed : (n : ℕ) (r s : Rest) (ws : List Want) → PassesFields n r s → wants_demands s (fields s) ws ≡ wants_demands r (drop n (fields r)) ws
-wants_demands-passed n r s ws p = ap (λ fs. wants_demands s fs ws) p.others ∙ wants_demands-same r s (drop n (fields r)) ws p.end
+wants_demands-passed n r s ws p = ap (λ fs. wants_demands s fs ws) p.others ∙ wants_demands-same r s (drop n (fields r)) ws (ap missing_at p.end)
 
 pub wants-met : (r s : Rest) (ws vs : List Want) → PassesFields (length ws) r s → first_unmet (wants_demands r (fields r) ws) ≡ None → first_unmet (wants_demands s (fields s) vs) ≡ None
     → first_unmet (wants_demands r (fields r) (ws ++ vs)) ≡ None

@@ -1,8 +1,8 @@
 -- What is asked of a whole text: of the header, and then of what follows it.
 use Rattle.std.proofs.Common.{◌≡◌, ℕ, codes, None, List, ◌++◌, sym, ap, ◌∙◌, subst}
-use Rattle.aig_ascii.specs.Text.{Rest, next_line}
+use Rattle.text_words.specs.Text.{Rest, next_line, whole}
 use Rattle.aig_ascii.specs.Header.{header_demands, sizes_of}
-use Rattle.aig_ascii.specs.Aag.{whole, fits, layout_from, layout_of, parts_in, demands}
+use Rattle.aig_ascii.specs.Aag.{fits, layout_from, layout_of, parts_in, demands}
 use Rattle.aig_ascii.specs.ReadSections.{behind_header}
 use Rattle.aig_ascii.specs.Reading.{first_unmet, Fails}
 use Rattle.aig_ascii.specs.declared.header.Sizes.{Sizes}

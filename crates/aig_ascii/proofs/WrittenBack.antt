@@ -11,12 +11,12 @@ use Rattle.aig_model.specs.declared.parts.Place.TheVariants.{Input, Latch as InL
 use Rattle.aig_model.specs.declared.parts.Named.{Named}
 use Rattle.aig_model.specs.declared.parts.Parts.{Parts}
 use Rattle.gate_order.specs.GateOrder.{IsGateOrder}
-use Rattle.aig_ascii.specs.Text.{Rest, next_line, all_lines}
+use Rattle.text_words.specs.Text.{Rest, next_line, all_lines, whole}
 use Rattle.aig_ascii.specs.Demands.{Demand, AllMet}
 use Rattle.aig_ascii.specs.Header.{sizes_of, header_demands}
 use Rattle.aig_ascii.specs.Sections.{use_demands}
 use Rattle.aig_ascii.specs.Symbols.{symbol_lines, symbol_demands}
-use Rattle.aig_ascii.specs.Aag.{whole, Layout, layout_from, layout_of, parts_in, uses_in, fits, body_demands, demands, SpellsCircuit}
+use Rattle.aig_ascii.specs.Aag.{Layout, layout_from, layout_of, parts_in, uses_in, fits, body_demands, demands, SpellsCircuit}
 use Rattle.aig_ascii.specs.declared.header.Sizes.{Sizes}
 use Rattle.aig_ascii.specs.CircuitText.{header_numbers, section_of, position_of, Precedes, AreInOrder, sections_text, symbol_text, parts_text, spaced, IsTextOf}
 use Rattle.aig_ascii.specs.RoundTrip.{ReadsBack}

@@ -1,10 +1,11 @@
 -- The ASCII format of circuits (AIGER 1.9): which texts spell a circuit, and what the first fault of any other text is.
-use Rattle.std.specs.Prelude.{◌≡◌, ℕ, ◌+◌, Bool, nat_le, ◌⊎◌, Result, Err, codes, List, [], ◌++◌, map, Contains}
+use Rattle.std.specs.Prelude.{◌≡◌, ℕ, ◌+◌, Bool, nat_le, ◌⊎◌, Result, codes, List, [], ◌++◌, map, Contains}
+use Rattle.ketch_base.specs.Exactly as exactly
 use Rattle.aig_model.specs.WellFormed.{definers}
 use Rattle.aig_model.specs.declared.parts.AndGate.{AndGate}
 use Rattle.aig_model.specs.declared.parts.Parts.{Parts}
 use Rattle.gate_order.specs.GateOrder.{IsGateOrder, IsCycle}
-use Rattle.aig_ascii.specs.Text.{Rest, next_line, lines_of, after_lines, all_lines}
+use Rattle.text_words.specs.Text.{Rest, whole, next_line, lines_of, after_lines, all_lines}
 use Rattle.aig_ascii.specs.Demands.{Demand, AllMet, IsFirstUnmet}
 use Rattle.aig_ascii.specs.Header.{sizes_of, header_demands}
 use Rattle.aig_ascii.specs.declared.header.Sizes.{Sizes}
@@ -14,9 +15,6 @@ use Rattle.aig_ascii.specs.declared.fault.AagKind.{AagKind}
 use Rattle.aig_ascii.specs.declared.fault.AagKind.TheVariants.{Cycle}
 use Rattle.aig_ascii.specs.declared.fault.AagFault.{AagFault}
 use Rattle.aig_ascii.specs.declared.fault.AagFault.TheVariants as faults
-
-abbrev pub whole : List ℕ → Rest
-whole text = record { at = 0; bytes = text }
 
 -- ---- where the sections begin, and how many lines each has
 
@@ -127,11 +125,11 @@ IsFirstFault text at kind = IsFirstUnmet (demands text) at kind ⊎ ((kind ≡ C
 
 -- ---- what a call answers
 
--- a fault that isn't want of memory is the first
+-- a fault other than out of memory is the first one
 abbrev pub IsFault : List ℕ → AagFault → Type 0
 IsFault text (faults.At at kind) = IsFirstFault text at kind
 IsFault text faults.OutOfMemory = Unit {0}
 
 -- a call answers so, unless memory runs out
 abbrev pub Answers : Result Parts AagFault → Result Parts AagFault → Type 0
-Answers result answer = (result ≡ answer) ⊎ (result ≡ Err faults.OutOfMemory)
+Answers result answer = exactly.Answers faults.OutOfMemory result answer

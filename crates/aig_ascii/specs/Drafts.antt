@@ -3,7 +3,7 @@ use Rattle.std.specs.Prelude.{◌≡◌, ℕ, true, List, ◌++◌, map}
 use Rattle.aig_model.specs.WellFormed.{latch_lits, left_sides}
 use Rattle.aig_model.specs.declared.parts.Latch.{Latch}
 use Rattle.aig_model.specs.declared.parts.AndGate.{AndGate}
-use Rattle.aig_ascii.specs.Text.{Rest, number}
+use Rattle.text_words.specs.Text.{Rest, number}
 use Rattle.aig_ascii.specs.Demands.{Demand, demand}
 use Rattle.aig_ascii.specs.Sections.{defines, is_known}
 use Rattle.aig_ascii.specs.Reading.{first_unmet}

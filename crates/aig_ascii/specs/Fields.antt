@@ -1,7 +1,8 @@
 -- What is asked of the fields of a line.
-use Rattle.std.specs.Prelude.{◌≡◌, ℕ, ◌+◌, Bool, true, false, is_some, if◌then◌else◌, List, [], ◌∷◌, ◌++◌, length, map, drop}
+use Rattle.std.specs.Prelude.{ℕ, Bool, true, false, is_some, if◌then◌else◌, List, [], ◌∷◌, ◌++◌, length, map, drop}
 use Rattle.text_words.specs.Numbers.{natural_of}
-use Rattle.aig_ascii.specs.Text.{Rest, has_newline, line_bytes, next_line, fields, word, number}
+use Rattle.text_words.specs.Text.{Rest, line_end, fields, word, number}
+use Rattle.text_words.specs.declared.cursor.LineEnd.{LineEnd}
 use Rattle.aig_ascii.specs.Demands.{Demand, demand, never}
 use Rattle.aig_ascii.specs.declared.fault.AagKind.{AagKind}
 use Rattle.aig_ascii.specs.declared.fault.AagKind.TheVariants.{Number, Truncated}
@@ -28,9 +29,11 @@ field_demands tests f =
     demand f.at Number (is_some (natural_of (word f.bytes))) ∷ map (λ (t : Test). demand f.at t.kind (t.passes (number f))) tests
 
 -- a field is missing: at the line's end, or at the text's end where no newline comes
+abbrev pub missing_at : LineEnd → Demand
+missing_at end = never end.at (if end.is_cut then Truncated else Number)
+
 abbrev pub missing : Rest → Demand
-missing r =
-    if has_newline r.bytes then never (r.at + length (line_bytes r.bytes)) Number else never (r.at + length r.bytes) Truncated
+missing r = missing_at (line_end r)
 
 -- the first of these fields is as wanted, in a line that goes on at r
 abbrev pub want_demands : Rest → Want → List Rest → List Demand
@@ -49,17 +52,3 @@ none_demands fs = map (λ (f : Rest). never f.at Number) fs
 -- the line has the fields that are wanted, and no more
 abbrev pub line_demands : List Want → Rest → List Demand
 line_demands wants r = wants_demands r (fields r) wants ++ none_demands (drop (length wants) (fields r))
-
--- ---- going on in a line
-
--- from the first field that is left of a line, if there is one, to the next one or to the line's end
-pub record PassesField (old new : Rest) : Type 0 where
-  pub others : fields new ≡ drop 1 (fields old)
-  pub end : missing new ≡ missing old
-  pub next : next_line new ≡ next_line old
-
--- so many fields of a line are passed
-pub record PassesFields (n : ℕ) (old new : Rest) : Type 0 where
-  pub others : fields new ≡ drop n (fields old)
-  pub end : missing new ≡ missing old
-  pub next : next_line new ≡ next_line old

@@ -1,8 +1,8 @@
 -- The header of a circuit's text: a magic word, and up to nine numbers.
-use Rattle.std.specs.Prelude.{◌≡◌, ◌<◌, ◌≤◌, ℕ, Bool, IsTrue, nat_eq, nat_le, nat_lt, List, [], ◌∷◌, ◌++◌, length, map, get_or, drop}
-use Rattle.std.specs.List.{starts_with, list_all}
+use Rattle.std.specs.Prelude.{◌≤◌, ℕ, Bool, nat_eq, nat_le, List, [], ◌∷◌, ◌++◌, map, get_or, drop}
+use Rattle.std.specs.List.{starts_with}
 use Rattle.aig_model.specs.WellFormed.{limit}
-use Rattle.aig_ascii.specs.Text.{Rest, fields, number}
+use Rattle.text_words.specs.Text.{Rest, fields, number}
 use Rattle.aig_ascii.specs.Demands.{Demand, demand}
 use Rattle.aig_ascii.specs.Fields.{Test, Want, wanted, optional, wants_demands, none_demands}
 use Rattle.aig_ascii.specs.declared.header.Sizes.{Sizes}
@@ -52,12 +52,6 @@ header_demands magic fits text =
     ∷ wants_demands text (header_fields text) header_wants
     ++ demand (get_or (header_fields text) 0 text).at Header (fits (sizes_of text))
     ∷ none_demands (drop 9 (header_fields text))
-
--- a magic word, of bytes above the space, with the space behind it
-pub record IsMagic (magic word : List ℕ) : Type 0 where
-  pub some : 0 < length word
-  pub letters : IsTrue (list_all (λ b. nat_lt 32 b) word)
-  pub form : magic ≡ word ++ 32 ∷ []
 
 -- the sizes are within the limit of each number
 pub record AreFew (s : Sizes) : Type 0 where

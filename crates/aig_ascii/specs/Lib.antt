@@ -11,4 +11,3 @@ pub mod RoundTrip
 pub mod Sections
 pub mod SymbolTables
 pub mod Symbols
-pub mod Text

@@ -2,12 +2,12 @@
 use Rattle.std.specs.Prelude.{◌≡◌, ◌+◌, ◌<◌, ℕ, List, [], ◌++◌, map, length, get_or}
 use Rattle.aig_model.specs.WellFormed.{definers, left_sides}
 use Rattle.aig_model.specs.declared.parts.Parts.{Parts}
-use Rattle.aig_ascii.specs.Text.{lines_of, after_lines, all_lines}
+use Rattle.text_words.specs.Text.{lines_of, after_lines, all_lines, whole}
 use Rattle.aig_ascii.specs.Demands.{Demand}
 use Rattle.aig_ascii.specs.Sections.{lits_of, latch_of, gate_of, use_demands}
 use Rattle.aig_ascii.specs.Symbols.{symbol_lines, symbol_demands}
 use Rattle.aig_ascii.specs.Drafts.{definers_of, use_of, StandFor}
-use Rattle.aig_ascii.specs.Aag.{whole, Layout, parts_in, uses_in, body_demands}
+use Rattle.aig_ascii.specs.Aag.{Layout, parts_in, uses_in, body_demands}
 use Rattle.aig_ascii.specs.declared.reading.Sections.{Sections}
 use Rattle.gate_order.specs.declared.order.fault.OrderFault.{OrderFault}
 use Rattle.gate_order.specs.declared.order.fault.OrderFault.TheVariants as orders

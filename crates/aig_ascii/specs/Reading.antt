@@ -1,27 +1,9 @@
--- What the private calls compute: the first demand that isn't met, and what is left behind a run of bytes.
-use Rattle.std.specs.Prelude.{◌≡◌, ℕ, ◌+◌, ◌*◌, ◌==◌, Option, Some, None, Result, Ok, Err, if◌then◌else◌, List, [], ◌∷◌}
-use Rattle.std.specs.Char.{is_ascii_digit, digit_value}
+-- What the private calls compute: the first demand that isn't met.
+use Rattle.std.specs.Prelude.{◌≡◌, ℕ, Option, Some, None, Result, Ok, Err, if◌then◌else◌, List, [], ◌∷◌}
 use Rattle.aig_ascii.specs.Demands.{Demand}
 use Rattle.aig_ascii.specs.declared.fault.AagKind.{AagKind}
 use Rattle.aig_ascii.specs.declared.fault.AagFault.{AagFault}
 use Rattle.aig_ascii.specs.declared.fault.AagFault.TheVariants as faults
-
--- ---- runs of bytes, and what is left behind them
-
-abbrev pub behind_spaces : List ℕ → List ℕ
-behind_spaces [] = []
-behind_spaces (b ∷ bs) = if b == 32 then behind_spaces bs else b ∷ bs
-
--- the number that the digits write when they follow those of n
-abbrev pub digits_after : ℕ → List ℕ → ℕ
-digits_after n [] = n
-digits_after n (b ∷ bs) = if is_ascii_digit b then digits_after (n * 10 + digit_value b) bs else n
-
-abbrev pub behind_newline : List ℕ → List ℕ
-behind_newline [] = []
-behind_newline (b ∷ bs) = if b == 10 then bs else behind_newline bs
-
--- ---- demands
 
 abbrev pub first_unmet : List Demand → Option (ℕ × AagKind)
 first_unmet [] = None

@@ -6,7 +6,7 @@ use Rattle.aig_model.specs.declared.parts.Latch.{Latch}
 use Rattle.aig_model.specs.declared.parts.AndGate.{AndGate}
 use Rattle.aig_model.specs.declared.parts.Reset.{Reset}
 use Rattle.aig_model.specs.declared.parts.Reset.TheVariants as resets
-use Rattle.aig_ascii.specs.Text.{Rest, fields, number, next_line, lines_of}
+use Rattle.text_words.specs.Text.{Rest, fields, number, next_line, lines_of}
 use Rattle.aig_ascii.specs.Demands.{Demand, demand}
 use Rattle.aig_ascii.specs.Fields.{Test, Want, wanted, optional, line_demands}
 use Rattle.aig_ascii.specs.declared.fault.AagKind.TheVariants.{Range, Defined, Undefined, Reset as BadReset}

@@ -4,7 +4,7 @@ use Rattle.aig_model.specs.declared.parts.Place.{Place}
 use Rattle.aig_model.specs.declared.parts.Place.TheVariants as places
 use Rattle.aig_model.specs.declared.parts.Named.{Named}
 use Rattle.aig_ascii.specs.Symbols.{is_empty, exists_in, place_at, symbol_on, is_right}
-use Rattle.aig_ascii.specs.Text.{Rest, line_bytes}
+use Rattle.text_words.specs.Text.{Rest, line_bytes}
 use Rattle.aig_ascii.specs.Demands.{Demand, demand}
 use Rattle.aig_ascii.specs.declared.fault.AagKind.TheVariants.{Symbol}
 use Rattle.aig_ascii.specs.declared.header.Sizes.{Sizes}

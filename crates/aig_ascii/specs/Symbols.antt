@@ -7,7 +7,7 @@ use Rattle.text_words.specs.Numbers.{natural_of}
 use Rattle.aig_model.specs.declared.parts.Place.{Place}
 use Rattle.aig_model.specs.declared.parts.Place.TheVariants as places
 use Rattle.aig_model.specs.declared.parts.Named.{Named}
-use Rattle.aig_ascii.specs.Text.{Rest, line_bytes, leading_digits, behind_digits}
+use Rattle.text_words.specs.Text.{Rest, line_bytes, leading_digits, behind_digits}
 use Rattle.aig_ascii.specs.Demands.{Demand, demand}
 use Rattle.aig_ascii.specs.declared.header.Sizes.{Sizes}
 use Rattle.aig_ascii.specs.declared.fault.AagKind.TheVariants.{Symbol}

@@ -3,20 +3,20 @@
 ghost use Rattle.std.specs.Prelude.{◌≡◌, ◌≤◌, ◌+◌, ℕ, [], ◌∷◌, ◌++◌, false, length, map, get_or, slice_index_or, OnOk, IfOk};
 ghost use Rattle.aig_model.specs.Literal.{var};
 ghost use Rattle.aig_model.specs.WellFormed.{limit};
-ghost use Rattle.aig_ascii.specs.Text.{fields};
-ghost use Rattle.aig_ascii.specs.Text as text;
-ghost use Rattle.aig_ascii.specs.Fields.{PassesField, want_demands};
+ghost use Rattle.text_words.specs.Text.{fields, PassesField};
+ghost use Rattle.text_words.specs.Text as text;
+ghost use Rattle.aig_ascii.specs.Fields.{want_demands};
 ghost use Rattle.aig_ascii.specs.Sections as sections;
 ghost use Rattle.aig_ascii.specs.Sections.{defines, is_known};
 ghost use Rattle.aig_ascii.specs.Reading.{first_unmet, Says};
 
-use crate::cursor::Cursor;
 use crate::fault::{AagFault, AagKind};
 use crate::fields::literal;
-use aig_model::{AndGate, Bits, Gates, Latch, Latches, Lit, Lits};
+use aig_model::{AndGate, Bits, Gates, Latch, Latches, Lit, Lits, Names, Parts};
 use ketch_base::OutOfMemory;
 use std::alloc::Global;
 use std::marker::Model;
+use text_words::Cursor;
 
 /// A literal that is used, and the place of its field.
 #[derive(Clone, Copy, Debug, PartialEq, Eq)]
@@ -182,13 +182,28 @@ impl Draft {
         Ok(())
     }
 
-    /// The greatest variable, and the lists.
-    pub fn into_lists(self) -> (u32, Lits, Latches, Gates)
-        ensures top { result.0 ≡ self.top }
-        ensures inputs { result.1 ≡ self.inputs }
-        ensures latches { result.2 ≡ self.latches }
-        ensures gates { result.3 ≡ self.gates }
+    /// The parts of a circuit, with the gates in the order of their lines.
+    pub fn into_parts(self, outputs: Lits, bads: Lits, constraints: Lits, names: Names) -> Parts
+        ensures { result ≡ record {
+          top = self.top;
+          inputs = self.inputs;
+          latches = self.latches;
+          outputs = outputs;
+          bads = bads;
+          constraints = constraints;
+          gates = self.gates;
+          names = names;
+        } }
     {
-        (self.top, self.inputs, self.latches, self.gates)
+        Parts {
+            top: self.top,
+            inputs: self.inputs,
+            latches: self.latches,
+            outputs,
+            bads,
+            constraints,
+            gates: self.gates,
+            names,
+        }
     }
 }

@@ -20,7 +20,8 @@ pub enum AagKind {
     Cycle,
     /// A reset that isn't 0, 1 or the latch's own literal.
     Reset,
-    /// A line after the gates that is no symbol and begins no comment, or a symbol of nothing or of what has one.
+    /// A line after the gates that is no symbol and begins no comment, or a symbol of an item that doesn't
+    /// exist, or that has a symbol already.
     Symbol,
     /// The file ends where a field or a line is missing.
     Truncated,

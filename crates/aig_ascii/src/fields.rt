@@ -1,19 +1,33 @@
 //! The fields of a line, read one after another.
 
-ghost use Rattle.std.specs.Prelude.{◌≡◌, ◌≤◌, min, [], ◌∷◌, map, get_or, OnOk, IfOk};
+ghost use Rattle.std.specs.Prelude.{◌≡◌, ◌≤◌, true, min, [], ◌∷◌, map, get_or, OnOk, IfOk};
 ghost use Rattle.aig_model.specs.WellFormed.{limit};
-ghost use Rattle.aig_ascii.specs.Text.{fields, next_line};
-ghost use Rattle.aig_ascii.specs.Text as text;
-ghost use Rattle.aig_ascii.specs.Fields.{PassesField, want_demands, none_demands, wanted, optional};
+ghost use Rattle.text_words.specs.Text.{ends_line, fields, next_line, PassesField};
+ghost use Rattle.text_words.specs.Text as text;
+ghost use Rattle.aig_ascii.specs.Fields.{missing, want_demands, none_demands, wanted, optional};
 ghost use Rattle.aig_ascii.specs.Header as header;
 ghost use Rattle.aig_ascii.specs.Sections as sections;
-ghost use Rattle.aig_ascii.specs.Reading.{first_unmet, Says};
+ghost use Rattle.aig_ascii.specs.Reading.{first_unmet, Says, IsFaultOf};
 
-use crate::cursor::Cursor;
 use crate::fault::{AagFault, AagKind};
 use aig_model::{Lit, Reset};
+use text_words::Cursor;
 
 const MOST: u64 = 3_999_999;
+
+/// The fault of a field that is missing where the line ends.
+fn missing(cursor: &Cursor<'_>) -> AagFault
+    requires { ends_line cursor.now.bytes ≡ true }
+    ensures { IsFaultOf (missing cursor.now) result }
+{
+    let end = cursor.line_end();
+    let kind = if end.is_cut {
+        AagKind::Truncated
+    } else {
+        AagKind::Number
+    };
+    AagFault::At { at: end.at, kind }
+}
 
 /// The number of a field that must stand here, or the greatest u64 in place of a greater one.
 pub fn number(cursor: &mut Cursor<'_>) -> Result<u64, AagFault>
@@ -22,7 +36,7 @@ pub fn number(cursor: &mut Cursor<'_>) -> Result<u64, AagFault>
     ensures passes { OnOk result (PassesField cursor.old cursor.new) }
 {
     if !cursor.has_field() {
-        return Err(cursor.missing());
+        return Err(missing(cursor));
     }
     let at = cursor.at();
     match cursor.number() {

@@ -2,15 +2,15 @@
 
 ghost use Rattle.std.specs.Prelude.{◌≡◌, ◌≤◌, ℕ, codes, take, drop, OnOk, IfOk};
 ghost use Rattle.aig_model.specs.WellFormed.{limit};
-ghost use Rattle.aig_ascii.specs.Text.{fields, next_line};
-ghost use Rattle.aig_ascii.specs.Fields.{PassesFields, wants_demands};
+ghost use Rattle.text_words.specs.Text.{fields, next_line, PassesFields};
+ghost use Rattle.aig_ascii.specs.Fields.{wants_demands};
 ghost use Rattle.aig_ascii.specs.Header.{header_wants, sizes_in, sizes_of, header_demands, AreFew, size_at};
 ghost use Rattle.aig_ascii.specs.Aag.{fits};
 ghost use Rattle.aig_ascii.specs.Reading.{first_unmet, Says};
 
-use crate::cursor::Cursor;
 use crate::fault::{AagFault, AagKind};
 use crate::fields::{end_line, no_liveness, optional_size, size};
+use text_words::Cursor;
 
 const MAGIC: &[u8] = b"aag ";
 

@@ -3,26 +3,27 @@
 ghost use Rattle.std.specs.Prelude.{◌≡◌, ◌+◌, ◌<◌, ◌++◌, [], ℕ, length, slice_index, Contains, IfOk, IfErr, OnOk, Ok, Err, map};
 ghost use Rattle.aig_model.specs.WellFormed.{definers, left_sides, IsSized};
 ghost use Rattle.aig_model.specs.declared.parts.Parts.{Parts};
-ghost use Rattle.aig_ascii.specs.Text.{all_lines, after_lines};
+ghost use Rattle.text_words.specs.Text.{all_lines, after_lines, whole};
 ghost use Rattle.aig_ascii.specs.Header.{AreFew};
 ghost use Rattle.aig_ascii.specs.Sections.{use_demands};
 ghost use Rattle.aig_ascii.specs.Symbols.{symbol_lines, symbol_demands};
-ghost use Rattle.aig_ascii.specs.Aag.{whole, layout_from, layout_of, parts_in, uses_in, body_demands, demands, SpellsCircuit, IsFirstFault, IsFault, Answers};
+ghost use Rattle.aig_ascii.specs.Aag.{layout_from, layout_of, parts_in, uses_in, body_demands, demands, SpellsCircuit, IsFirstFault, IsFault, Answers};
 ghost use Rattle.gate_order.specs.GateOrder.{IsGateOrder};
 ghost use Rattle.gate_order.specs.OrderLaws.{IsUnordered};
+ghost use Rattle.gate_order.specs.StandingGates.{StandInOrder};
 ghost use Rattle.aig_ascii.specs.ReadSections.{IsSections, behind_header, lines_before, IsGatePlace, IsOrderFault};
 ghost use Rattle.aig_ascii.specs.Reading.{first_unmet, Says};
 ghost use Rattle.aig_ascii.specs.declared.fault.AagKind.{AagKind};
 
-use crate::cursor::Cursor;
 use crate::draft::Draft;
 use crate::fault::{AagFault, AagKind};
 use crate::header::{Sizes, read_header};
 use crate::sections::{read_gates, read_inputs, read_latches, read_lits};
 use crate::symbols::read_symbols;
-use aig_model::{Circuit, Gates, Lit, Lits, Names, Parts};
-use gate_order::{OrderFault, order_gates};
+use aig_model::{Circuit, Gates, Lit, Lits, Parts};
+use gate_order::{OrderFault, order_gates, stand_in_order};
 use std::alloc::Global;
+use text_words::Cursor;
 
 /// What the lines of the sections spell.
 #[derive(Drop)]
@@ -31,33 +32,6 @@ pub struct Sections {
     pub outputs: Lits,
     pub bads: Lits,
     pub constraints: Lits,
-}
-
-impl Sections {
-    fn into_parts(self, names: Names) -> Parts
-        ensures { result ≡ record {
-          top = self.draft.top;
-          inputs = self.draft.inputs;
-          latches = self.draft.latches;
-          outputs = self.outputs;
-          bads = self.bads;
-          constraints = self.constraints;
-          gates = self.draft.gates;
-          names = names;
-        } }
-    {
-        let (top, inputs, latches, gates) = self.draft.into_lists();
-        Parts {
-            top,
-            inputs,
-            latches,
-            outputs: self.outputs,
-            bads: self.bads,
-            constraints: self.constraints,
-            gates,
-            names,
-        }
-    }
 }
 
 fn read_sections(alloc: Global, cursor: &mut Cursor<'_>, sizes: Sizes) -> Result<Sections, AagFault>
@@ -90,7 +64,13 @@ fn read_body(alloc: Global, cursor: &mut Cursor<'_>, sizes: Sizes) -> Result<Par
     let sections = read_sections(alloc, cursor, sizes)?;
     let names = read_symbols(alloc, cursor, sizes)?;
     sections.draft.check_uses()?;
-    Ok(sections.into_parts(names))
+    let parts = sections.draft.into_parts(
+        sections.outputs,
+        sections.bads,
+        sections.constraints,
+        names,
+    );
+    Ok(parts)
 }
 
 /// The parts that the text spells, with the gates in the order of the file.
@@ -147,22 +127,24 @@ fn gate_place(bytes: &[u8], parts: &Parts, lhs: Lit) -> u64
     line_place(bytes, before + place)
 }
 
+/// The circuit of parts whose gates stand in order.
+fn standing(parts: Parts) -> Circuit
+    requires unordered { IsUnordered parts }
+    requires stand { StandInOrder parts.gates }
+    ensures { result ≡ parts }
+{
+    Circuit::new(parts)
+}
+
 /// The circuit of parts whose gates have this order.
 fn ordered(parts: Parts, gates: Gates) -> Circuit
     requires unordered { IsUnordered parts }
     requires order { IsGateOrder parts.gates gates }
     ensures { result ≡ record parts { gates = gates } }
 {
-    Circuit::new(Parts {
-        top: parts.top,
-        inputs: parts.inputs,
-        latches: parts.latches,
-        outputs: parts.outputs,
-        bads: parts.bads,
-        constraints: parts.constraints,
-        gates,
-        names: parts.names,
-    })
+    let mut parts = parts;
+    parts.gates = gates;
+    Circuit::new(parts)
 }
 
 /// The fault of gates that have no order.
@@ -193,6 +175,10 @@ pub fn read_aag(alloc: Global, bytes: &[u8]) -> Result<Circuit, AagFault>
     ensures every_fault { (at : ℕ) (kind : AagKind) → IsFirstFault bytes.now at kind → Answers result (Err (AagFault.At at kind)) }
 {
     let parts = read_parts(alloc, bytes)?;
+    // Most files have their gates in order, and then none is copied.
+    if stand_in_order(parts.gates.as_slice()) {
+        return Ok(standing(parts));
+    }
     match order_gates(alloc, &parts.gates) {
         Ok(gates) => Ok(ordered(parts, gates)),
         Err(fault) => Err(order_fault(bytes, &parts, fault)),

@@ -1,18 +1,18 @@
 //! The lines of the sections.
 
 ghost use Rattle.std.specs.Prelude.{◌≡◌, ◌++◌, ◌∷◌, [], map, OnOk, IfOk};
-ghost use Rattle.aig_ascii.specs.Text.{next_line, lines_of, after_lines};
+ghost use Rattle.text_words.specs.Text.{next_line, lines_of, after_lines};
 ghost use Rattle.aig_ascii.specs.Fields.{line_demands};
 ghost use Rattle.aig_ascii.specs.Sections.{input, latch, plain, gate, wants_of, used_by, number_at, latch_of, gate_of, lits_of, section_demands, section_uses};
 ghost use Rattle.aig_ascii.specs.Drafts.{definers_of, use_of, StandFor};
 ghost use Rattle.aig_ascii.specs.Reading.{first_unmet, Says};
 
-use crate::cursor::Cursor;
 use crate::draft::Draft;
 use crate::fault::AagFault;
 use crate::fields::{end_line, literal, reset};
 use aig_model::{AndGate, Latch, Lit, Lits};
 use std::alloc::Global;
+use text_words::Cursor;
 
 fn read_input(cursor: &mut Cursor<'_>, draft: &mut Draft) -> Result<(), AagFault>
     ensures demands { Says result (first_unmet (line_demands (wants_of input draft.old.top (definers_of draft.old) cursor.old) cursor.old)) }

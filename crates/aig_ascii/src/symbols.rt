@@ -3,21 +3,20 @@
 ghost use Rattle.std.specs.Prelude.{◌≡◌, ◌<◌, ◌∷◌, ◌++◌, [], Some, MatchOption, OnOk, IfOk, true, false, length};
 ghost use Rattle.std.specs.Bool.{OnTrue, OnFalse};
 ghost use Rattle.std.specs.Option.{option_to_list};
-ghost use Rattle.aig_ascii.specs.Text.{line_bytes, next_line, all_lines};
+ghost use Rattle.text_words.specs.Text.{line_bytes, next_line, all_lines};
 ghost use Rattle.aig_ascii.specs.Demands.{demand};
 ghost use Rattle.aig_ascii.specs.Header.{AreFew};
 ghost use Rattle.aig_ascii.specs.Symbols.{begins_comment, symbol_of, symbol_on, symbol_lines, symbol_demands, symbols_of, exists_in, is_right};
 ghost use Rattle.aig_ascii.specs.SymbolTables.{exists_symbol, slot, slots, place_within, symbol_line_demands};
 ghost use Rattle.aig_ascii.specs.Reading.{first_unmet, Says};
 
-use crate::bytes::digits;
-use crate::cursor::Cursor;
 use crate::fault::{AagFault, AagKind};
 use crate::header::Sizes;
 use aig_model::{Bits, Name, Named, Names, Place};
 use ketch_base::OutOfMemory;
 use std::alloc::Global;
 use std::marker::Model;
+use text_words::{Cursor, digits};
 
 /// The names so far, and which items have one.
 #[derive(Drop)]

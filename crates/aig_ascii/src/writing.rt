@@ -8,8 +8,6 @@ mod header;
 mod lines;
 mod names;
 mod symbols;
-#[cfg(test)]
-mod tests;
 
 use aig_model::Circuit;
 use header::write_header;

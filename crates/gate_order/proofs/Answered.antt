@@ -5,7 +5,8 @@ use Rattle.aig_model.specs.WellFormed.{IsOrdered}
 use Rattle.aig_model.specs.declared.parts.AndGate.{AndGate}
 use Rattle.gate_order.specs.declared.order.fault.OrderFault.{OrderFault}
 use Rattle.gate_order.specs.declared.order.fault.OrderFault.TheVariants.{Cycle, OutOfMemory}
-use Rattle.gate_order.specs.GateOrder.{DefineApart, IsGateOrder, IsAcyclic, IsCycle, IsFault, OkExactly, ErrExactly}
+use Rattle.gate_order.specs.GateOrder.{DefineApart, IsGateOrder, IsAcyclic, IsCycle, IsFault}
+use Rattle.ketch_base.specs.Exactly.{OkExactly, ErrExactly}
 use Rattle.gate_order.proofs.Depends.{order_again, is_cycle_again, acyclic_from_order, order_or_cycle, one_cycle}
 use Rattle.gate_order.proofs.OrderedGates.{ordered_gates}
 
@@ -14,12 +15,12 @@ module _ (gates : List AndGate) (define : DefineApart gates) where
   answer_ordered (Ok ordered) ok = ordered_gates gates define ordered ok
   answer_ordered (Err fault) ok = tt
 
-  pub answer_ok : (r : Result (List AndGate) OrderFault) → IfOk r (IsGateOrder gates) → IfErr r (IsFault gates) → OkExactly r (IsAcyclic gates)
+  pub answer_ok : (r : Result (List AndGate) OrderFault) → IfOk r (IsGateOrder gates) → IfErr r (IsFault gates) → OkExactly OutOfMemory r (IsAcyclic gates)
   answer_ok (Ok ordered) ok err = record { only = λ _. acyclic_from_order gates ordered ok; comes = λ acyclic. inl refl }
   answer_ok (Err (Cycle lhs)) ok err = record { only = λ never. (cc); comes = λ acyclic. absurd (acyclic err.depends.on err.depends.cycle) }
   answer_ok (Err OutOfMemory) ok err = record { only = λ never. (cc); comes = λ acyclic. inr refl }
 
-  pub answer_cycle : (r : Result (List AndGate) OrderFault) → IfOk r (IsGateOrder gates) → IfErr r (IsFault gates) → (lhs : ℕ) → ErrExactly r (Cycle lhs) (IsCycle gates lhs)
+  pub answer_cycle : (r : Result (List AndGate) OrderFault) → IfOk r (IsGateOrder gates) → IfErr r (IsFault gates) → (lhs : ℕ) → ErrExactly OutOfMemory r (Cycle lhs) (IsCycle gates lhs)
   answer_cycle (Ok ordered) ok err lhs = record { only = λ never. (cc); comes = λ is. absurd (order_or_cycle gates ordered lhs ok is) }
   answer_cycle (Err (Cycle named)) ok err lhs =
       record {

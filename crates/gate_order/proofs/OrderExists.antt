@@ -1,4 +1,4 @@
--- Gates none of which depends on itself have an order.
+-- Gates that define variables of their own have an order, or one of them depends on itself.
 use Rattle.std.proofs.Common.{◌≡◌, ◌≢◌, ℕ, zero, suc, inl, inr, ◌⊎◌, ◌+◌, ◌<◌, ◌≤◌, ◌&&◌, Bool, true, false, cond, nat_eq, nat_lt, nat_le, List, [], ◌∷◌, ◌++◌, map, length, get_or, arith, sym, ap, ◌∙◌, subst, refl, All, Contains}
 use Rattle.std.specs.List.{AllByRecursion, range_with_len}
 use Rattle.std.specs.List.Sorted.{IsPermutation, IsNonDecreasingBy}
@@ -7,12 +7,12 @@ use Rattle.std.proofs.lemmas.Bool.Decides.{nat_tests}
 use Rattle.std.proofs.lemmas.List.{length_push, length-map, get_or-map}
 use Rattle.std.proofs.lemmas.List.FromFn.{get_or-map-range_with_len, length-map-range_with_len}
 use Rattle.std.proofs.lemmas.List.Elements.{All-nil, All-push, All-from_get_or, All-weaker, All-from_recursion, Contains-append_cases}
-use Rattle.std.proofs.lemmas.List.Sorted.{Contains-permutation, IsPermutation-refl, IsPermutation-sym, IsPermutation-trans, IsPermutation-cons, IsPermutation-middle}
+use Rattle.std.proofs.lemmas.List.Sorted.{IsPermutation-refl, IsPermutation-sym, IsPermutation-trans, IsPermutation-cons, IsPermutation-middle}
 use Rattle.aig_model.specs.Literal.{var}
 use Rattle.aig_model.specs.WellFormed.{left_sides, IsOrdered}
 use Rattle.aig_model.specs.declared.parts.AndGate.{AndGate}
 use Rattle.gate_order.specs.GateOrder.{DefineApart, IsAcyclic}
-use Rattle.gate_order.specs.OrderLaws.{HaveOrder}
+use Rattle.gate_order.specs.OrderLaws.{HaveOrder, HaveCycle}
 use Rattle.gate_order.specs.SortedGates.{AreSorted, no_gate, gate_at, gates_at, input, IsUseOf, AreUses}
 use Rattle.gate_order.specs.PlaceOrder.{times, waits_of, IsPlaceOrder, IsPlacing}
 use Rattle.gate_order.specs.declared.order.sorted.Side.{Side}
@@ -21,7 +21,7 @@ use Rattle.gate_order.proofs.Times.{times-nil, times_push, equal_number, few_bel
 use Rattle.gate_order.proofs.Gates.{apart_again, sorted_from_sides}
 use Rattle.gate_order.proofs.Placing.{some_number, blocked_more, order_push}
 use Rattle.gate_order.proofs.PlacedGates.{gate_order, is_cycle}
-use Rattle.gate_order.proofs.Depends.{order_again, depends_again, depends_inside, placed_on_no_cycle, IsPlacedInOrder}
+use Rattle.gate_order.proofs.Depends.{order_again, is_cycle_again, depends_inside, placed_on_no_cycle, IsPlacedInOrder}
 
 -- ---- the first number below a bound that passes a test
 record First (test : ℕ → Bool) (bound : ℕ) : Type 0 where
@@ -216,7 +216,7 @@ place_more (suc fuel) bound left right placed size so enough =
     ]
 
 -- ---- the order of sorted gates
-module _ (gates : List AndGate) (sorted : AreSorted gates) (acyclic : IsAcyclic gates) where
+module _ (gates : List AndGate) (sorted : AreSorted gates) where
   abbrev left : List ℕ
   left = uses_on Left gates gates
 
@@ -264,21 +264,22 @@ module _ (gates : List AndGate) (sorted : AreSorted gates) (acyclic : IsAcyclic 
     order = stuck.so.order;
   }
 
-  pub sorted_order : HaveOrder gates
-  sorted_order =
+  pub sorted_order_or_cycle : HaveOrder gates ⊎ HaveCycle gates
+  sorted_order_or_cycle =
       elim (first_of (λ p. nat_lt 0 (get_or waits p 0)) (length gates)) [
         | inl found ↦
             let here = found.here in
             let some : 0 < get_or waits found.place 0 = positive (get_or waits found.place 0) here in
-            let cycle = is_cycle gates sorted left right (uses-on Left gates) (uses-on Right gates) placed waits waits_size placing found.place found.inside some
-            (λ q h. none_of (get_or waits q 0) (found.before q h))
-            in
-            absurd (acyclic cycle.depends.on cycle.depends.cycle)
+            inr (record {
+              lhs = _;
+              cycle = is_cycle gates sorted left right (uses-on Left gates) (uses-on Right gates) placed waits waits_size placing found.place found.inside some
+                  (λ q h. none_of (get_or waits q 0) (found.before q h));
+            })
         | inr none ↦
-            record {
+            inl (record {
               ordered = gates_at gates placed;
               order = gate_order gates sorted left right (uses-on Left gates) (uses-on Right gates) placed waits waits_size placing (λ p h. none_of (get_or waits p 0) (none p h));
-            }
+            })
       ]
     where
       positive : (n : ℕ) → nat_lt 0 n ≡ true → 0 < n
@@ -287,14 +288,22 @@ module _ (gates : List AndGate) (sorted : AreSorted gates) (acyclic : IsAcyclic 
       none_of : (n : ℕ) → nat_lt 0 n ≡ false → n ≡ 0
       none_of n e = grind (arith, nat_tests)
 
-pub order_exists : (gates : List AndGate) → DefineApart gates → IsAcyclic gates → HaveOrder gates
-order_exists gates define acyclic =
+pub some_order_or_cycle : (gates : List AndGate) → DefineApart gates → HaveOrder gates ⊎ HaveCycle gates
+some_order_or_cycle gates define =
     let sorted = sort_gates gates in
     let same = sort-same gates in
     let are_sorted = sorted_from_sides sorted (apart_again gates sorted same define) (rising-places sorted (sort-rising gates)) in
-    let sorted_acyclic : IsAcyclic sorted = λ g cycle. acyclic g (depends_again gates (λ x h. Contains-permutation sorted gates x (IsPermutation-sym gates sorted same) h) cycle) in
-    let found = sorted_order sorted are_sorted sorted_acyclic in
-    record { ordered = found.ordered; order = order_again gates sorted found.ordered same found.order }
+    elim (sorted_order_or_cycle sorted are_sorted) [
+      | inl found ↦ inl (record { ordered = found.ordered; order = order_again gates sorted found.ordered same found.order })
+      | inr found ↦ inr (record { lhs = found.lhs; cycle = is_cycle_again gates sorted found.lhs same found.cycle })
+    ]
+
+pub order_exists : (gates : List AndGate) → DefineApart gates → IsAcyclic gates → HaveOrder gates
+order_exists gates define acyclic =
+    elim (some_order_or_cycle gates define) [
+      | inl found ↦ found
+      | inr found ↦ absurd (acyclic found.cycle.depends.on found.cycle.depends.cycle)
+    ]
 
 -- ---- gates that stand in some order already
 contains-map : {A B : Type 0} (f : A → B) (xs : List A) (x : A) → Contains xs x → Contains (map f xs) (f x)

@@ -1,5 +1,5 @@
 -- Orders in which gates can be evaluated, and gates that depend on themselves.
-use Rattle.std.specs.Prelude.{ℕ, ◌%◌, ◌≤◌, ◌≡◌, ◌≢◌, ◌⊎◌, List, ◌∷◌, ◌++◌, All, AllPairs, Contains, Result, Err, IsOk}
+use Rattle.std.specs.Prelude.{ℕ, ◌%◌, ◌≤◌, ◌≡◌, ◌≢◌, ◌⊎◌, List, ◌∷◌, ◌++◌, All, AllPairs, Contains}
 use Rattle.std.specs.List.Sorted.{IsPermutation}
 use Rattle.aig_model.specs.Literal.{var}
 use Rattle.aig_model.specs.WellFormed.{left_sides}
@@ -58,12 +58,3 @@ pub record IsCycle (gates : List AndGate) (lhs : ℕ) : Type 0 where
 abbrev pub IsFault : List AndGate → OrderFault → Type 0
 IsFault gates (Cycle lhs) = IsCycle gates lhs
 IsFault gates OutOfMemory = Unit {0}
-
--- ---- where an answer comes: there and nowhere else, but that want of memory may come in its place
-pub record OkExactly {T : Type 0} (result : Result T OrderFault) (Cause : Type 0) : Type 0 where
-  pub only : IsOk result → Cause
-  pub comes : Cause → IsOk result ⊎ (result ≡ Err OutOfMemory)
-
-pub record ErrExactly {T : Type 0} (result : Result T OrderFault) (fault : OrderFault) (Cause : Type 0) : Type 0 where
-  pub only : result ≡ Err fault → Cause
-  pub comes : Cause → (result ≡ Err fault) ⊎ (result ≡ Err OutOfMemory)

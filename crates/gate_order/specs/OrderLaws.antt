@@ -1,9 +1,10 @@
 -- Laws of the order of gates.
-use Rattle.std.specs.Prelude.{ℕ, ◌≡◌, ◌≢◌, List, All, AllPairs}
+use Rattle.std.specs.Prelude.{ℕ, ◌≡◌, ◌≢◌, ◌⊎◌, List, All, AllPairs}
 use Rattle.aig_model.specs.WellFormed.{IsSized, IsInRange, IsDefining, IsKnown, AreNames, IsCircuit, literals, definers, defined, uses}
 use Rattle.aig_model.specs.declared.parts.AndGate.{AndGate}
 use Rattle.aig_model.specs.declared.parts.Parts.{Parts}
 use Rattle.gate_order.specs.GateOrder.{DefineApart, IsGateOrder, IsAcyclic, IsCycle}
+use Rattle.gate_order.specs.StandingGates.{StandInOrder}
 
 -- gates have at most one order
 abbrev pub OneGateOrder : Type 0
@@ -34,6 +35,19 @@ OrderedCircuit = (c : Parts) (ordered : List AndGate) → IsUnordered c → IsGa
 pub record HaveOrder (gates : List AndGate) : Type 0 where
   pub ordered : List AndGate
   pub order : IsGateOrder gates ordered
+
+-- gates that have a cycle, and the left side that names it
+pub record HaveCycle (gates : List AndGate) : Type 0 where
+  pub lhs : ℕ
+  pub cycle : IsCycle gates lhs
+
+-- gates that define variables of their own have an order or a cycle
+abbrev pub SomeOrderOrCycle : Type 0
+SomeOrderOrCycle = (gates : List AndGate) → DefineApart gates → HaveOrder gates ⊎ HaveCycle gates
+
+-- gates whose variables rise, each above those of its gate's inputs, are their own order
+abbrev pub StandingOrder : Type 0
+StandingOrder = (gates : List AndGate) → StandInOrder gates → IsGateOrder gates gates
 
 -- gates none of which depends on itself have an order
 abbrev pub OrderExists : Type 0

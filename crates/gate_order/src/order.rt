@@ -1,9 +1,10 @@
 //! The order of gates: again and again the gate with the least left side among those whose gate inputs are all placed.
 
 ghost use Rattle.std.specs.Prelude.{ℕ, ◌≡◌, ◌<◌, ◌≤◌, ◌^◌, All, length, slice_index, IfOk, IfErr, MatchOption};
+ghost use Rattle.ketch_base.specs.Exactly.{OkExactly, ErrExactly};
 ghost use Rattle.ketch_base.specs.First.{IsFirst};
 ghost use Rattle.aig_model.specs.WellFormed.{IsOrdered};
-ghost use Rattle.gate_order.specs.GateOrder.{DefineApart, IsGateOrder, IsAcyclic, IsCycle, IsFault, OkExactly, ErrExactly};
+ghost use Rattle.gate_order.specs.GateOrder.{DefineApart, IsGateOrder, IsAcyclic, IsCycle, IsFault};
 ghost use Rattle.gate_order.specs.SortedGates.{AreSorted, ArePlaced, gates_at};
 
 mod counting;
@@ -12,7 +13,7 @@ pub mod laws;
 mod placing;
 mod queue;
 mod sorted;
-mod standing;
+pub mod standing;
 #[cfg(test)]
 mod tests;
 mod users;
@@ -112,8 +113,8 @@ pub fn order_gates(alloc: Global, gates: &Gates) -> Result<Gates, OrderFault>
     requires { DefineApart gates.now }
     ensures order { IfOk result (IsGateOrder gates.now) }
     ensures ordered { IfOk result IsOrdered }
-    ensures ok { OkExactly result (IsAcyclic gates.now) }
-    ensures cycle { (lhs : ℕ) → ErrExactly result (OrderFault.Cycle lhs) (IsCycle gates.now lhs) }
+    ensures ok { OkExactly OrderFault.OutOfMemory result (IsAcyclic gates.now) }
+    ensures cycle { (lhs : ℕ) → ErrExactly OrderFault.OutOfMemory result (OrderFault.Cycle lhs) (IsCycle gates.now lhs) }
 {
     order_or_fault(alloc, gates.as_slice())
 }

@@ -9,8 +9,8 @@ use Rattle.text_words.specs.Lines.{lines}
 use Rattle.aig_model.specs.declared.parts.Parts.{Parts}
 use Rattle.signal_list.specs.declared.fault.SigKind.{SigKind}
 use Rattle.signal_list.specs.declared.fault.SigKind.TheVariants.{Form, Range, NoName, TwoNames, Repeated, TooMany, Empty}
-use Rattle.signal_list.specs.declared.fault.LineFault.{LineFault}
-use Rattle.signal_list.specs.declared.fault.LineFault.TheVariants as stops
+use Rattle.text_words.specs.declared.fault.LineFault.{LineFault}
+use Rattle.text_words.specs.declared.fault.LineFault.TheVariants as stops
 use Rattle.signal_list.specs.SignalText.{trimmed, is_signal, signal_lines, SpellsSignal, SpellUpTo, SpellsSignals, HasFaultyLine, HasNoSignal, IsFirstFault, IsFault}
 use Rattle.signal_list.specs.Names.{Table, IsAsked, AreAsked}
 use Rattle.signal_list.specs.Reading.{JoinsOf, IsOwnFault, IsFaultAfter, on_line}
@@ -93,7 +93,7 @@ first-fault c text line Repeated f = f
 first-fault c text line TooMany f = f
 first-fault c text line Empty f = absurd f.fault
 
-pub fails : (c : Parts) (text : List ℕ) (number : ℕ) (line : List ℕ) (rest : Lines) (lits : List ℕ) (fault : LineFault) → IsReadUpTo c text number (line ∷ rest) lits
+pub fails : (c : Parts) (text : List ℕ) (number : ℕ) (line : List ℕ) (rest : Lines) (lits : List ℕ) (fault : LineFault SigKind) → IsReadUpTo c text number (line ∷ rest) lits
     → is_signal (trimmed line) ≡ true → IsFaultAfter c lits (trimmed line) fault → IsFault c text (on_line (number + 1) fault)
 fails c text number line rest lits (stops.Kind kind) r is f = first-fault c text (number + 1) kind (record {
   before = r.done;
@@ -129,7 +129,7 @@ ends-empty c text number lits r none = record {
     no-lines (l ∷ ls) each = absurd each
 
 -- a line's own fault, as a `?` hands it on
-pub own-fault : {A : Type 0} (c : Parts) (earlier line : List ℕ) (r : Result A LineFault) (kind : SigKind) → IsErrAnd r (λ e. e ≡ stops.Kind kind) → IsOwnFault c line kind
+pub own-fault : {A : Type 0} (c : Parts) (earlier line : List ℕ) (r : Result A (LineFault SigKind)) (kind : SigKind) → IsErrAnd r (λ e. e ≡ stops.Kind kind) → IsOwnFault c line kind
     → IfErr r (IsFaultAfter c earlier line)
 own-fault c earlier line (Ok x) kind is fault = tt
 own-fault c earlier line (Err e) kind is fault = subst (IsFaultAfter c earlier line) (sym is) (fault earlier)

@@ -10,7 +10,7 @@ use Rattle.aig_model.specs.WellFormed.{Exists, IsCircuit}
 use Rattle.aig_model.proofs.Elements.{Contains-or_not}
 use Rattle.signal_list.specs.declared.fault.SigKind.{SigKind}
 use Rattle.signal_list.specs.declared.fault.SigKind.TheVariants.{Form, Range, NoName, TwoNames, Repeated, TooMany, Empty}
-use Rattle.signal_list.specs.declared.fault.LineFault.TheVariants as stops
+use Rattle.text_words.specs.declared.fault.LineFault.TheVariants as stops
 use Rattle.signal_list.specs.declared.names.Owner.{Owner}
 use Rattle.signal_list.specs.declared.names.Owner.TheVariants.{One, Several}
 use Rattle.signal_list.specs.Names.{owner_of}

@@ -10,8 +10,8 @@ use Rattle.signal_list.specs.declared.fault.SigKind.{SigKind}
 use Rattle.signal_list.specs.declared.fault.SigKind.TheVariants.{Repeated, TooMany}
 use Rattle.signal_list.specs.declared.fault.SigFault.{SigFault}
 use Rattle.signal_list.specs.declared.fault.SigFault.TheVariants as faults
-use Rattle.signal_list.specs.declared.fault.LineFault.{LineFault}
-use Rattle.signal_list.specs.declared.fault.LineFault.TheVariants as stops
+use Rattle.text_words.specs.declared.fault.LineFault.{LineFault}
+use Rattle.text_words.specs.declared.fault.LineFault.TheVariants as stops
 use Rattle.signal_list.specs.SignalText.{Reference, place, literal, name, SpellsSignal, IsLineFault}
 
 abbrev pub name_in : List ℕ → Option Reference
@@ -55,7 +55,7 @@ abbrev pub IsOwnFault : Parts → List ℕ → SigKind → Type 0
 IsOwnFault c line kind = (earlier : List ℕ) → IsLineFault c earlier line kind
 
 -- the fault of a line after signals with these literals
-abbrev pub IsFaultAfter : Parts → List ℕ → List ℕ → LineFault → Type 0
+abbrev pub IsFaultAfter : Parts → List ℕ → List ℕ → LineFault SigKind → Type 0
 IsFaultAfter c earlier line (stops.Kind kind) = IsLineFault c earlier line kind
 IsFaultAfter c earlier line stops.OutOfMemory = Unit {0}
 
@@ -66,7 +66,7 @@ pub record Joins (old : List ℕ) (lit : ℕ) (new : List ℕ) : Type 0 where
   pub last : new ≡ old ++ lit ∷ []
 
 -- why a literal can't join
-abbrev pub IsKeptOut : List ℕ → ℕ → LineFault → Type 0
+abbrev pub IsKeptOut : List ℕ → ℕ → LineFault SigKind → Type 0
 IsKeptOut old lit (stops.Kind kind) = ((kind ≡ Repeated) × Contains old lit) ⊎ ((kind ≡ TooMany) × (¬ Contains old lit) × (10 ≤ length old))
 IsKeptOut old lit stops.OutOfMemory = Unit {0}
 
@@ -74,6 +74,6 @@ IsKeptOut old lit stops.OutOfMemory = Unit {0}
 abbrev pub JoinsOf : Parts → List ℕ → List ℕ → List ℕ → Type 0
 JoinsOf c line old new = (lit : ℕ) × SpellsSignal c line lit × Joins old lit new
 
-abbrev pub on_line : ℕ → LineFault → SigFault
+abbrev pub on_line : ℕ → LineFault SigKind → SigFault
 on_line n (stops.Kind kind) = faults.At n kind
 on_line n stops.OutOfMemory = faults.OutOfMemory

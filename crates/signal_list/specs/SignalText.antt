@@ -1,6 +1,7 @@
 -- The format of signal lists: which texts spell which signals of a circuit, and what the first fault of any other text is.
-use Rattle.std.specs.Prelude.{◌≡◌, ◌≢◌, ℕ, ◌+◌, ◌-◌, ◌<◌, ◌≤◌, Bool, false, not, IsTrue, ◌⊎◌, Option, Some, Result, Err, codes, List, [], ◌∷◌, ◌++◌, length, take, drop, map, filter, slice_get, Contains, AllPairs, ◌==◌}
+use Rattle.std.specs.Prelude.{◌≡◌, ◌≢◌, ℕ, ◌+◌, ◌-◌, ◌<◌, ◌≤◌, Bool, false, not, IsTrue, Option, Some, Result, codes, List, [], ◌∷◌, ◌++◌, length, take, drop, map, filter, slice_get, Contains, AllPairs, ◌==◌}
 use Rattle.std.specs.List.{AllZip, prefix_len, suffix_len}
+use Rattle.ketch_base.specs.Exactly as exactly
 use Rattle.text_words.specs.Lines.{lines}
 use Rattle.text_words.specs.Numbers.{natural_of}
 use Rattle.aig_model.specs.declared.parts.Parts.{Parts}
@@ -158,11 +159,11 @@ pub record AreSignalsOf (c : Parts) (text : List ℕ) (s : SignalList) : Type 0 
   pub circuit : s.circuit ≡ c
   pub spelled : SpellsSignals c text s.lits
 
--- a fault that isn't want of memory is the first
+-- a fault other than out of memory is the first one
 abbrev pub IsFault : Parts → List ℕ → SigFault → Type 0
 IsFault c text (faults.At line kind) = IsFirstFault c text line kind
 IsFault c text faults.OutOfMemory = Unit {0}
 
 -- a call answers so, unless memory runs out
 abbrev pub Answers : Result SignalList SigFault → Result SignalList SigFault → Type 0
-Answers result wanted = (result ≡ wanted) ⊎ (result ≡ Err faults.OutOfMemory)
+Answers result wanted = exactly.Answers faults.OutOfMemory result wanted

@@ -4,6 +4,7 @@ ghost use Rattle.std.specs.Prelude.{◌≡◌};
 ghost use Rattle.signal_list.specs.Reading.{on_line};
 
 use ketch_base::OutOfMemory;
+use text_words::LineFault;
 use thiserror::Error;
 
 /// On one line the kinds are tried in this order.
@@ -45,42 +46,23 @@ impl From<OutOfMemory> for SigFault {
     }
 }
 
-/// What stopped the reading of a line.
-#[derive(Clone, Copy, Debug, PartialEq, Eq)]
-pub enum LineFault {
-    Kind(SigKind),
-    OutOfMemory,
-}
-
-impl LineFault {
-    pub fn on_line(self, line: u32) -> SigFault
-        ensures { result ≡ on_line line self }
-    {
-        match self {
-            LineFault::Kind(kind) => SigFault::At { line, kind },
-            LineFault::OutOfMemory => SigFault::OutOfMemory,
-        }
+/// The fault of a line, at its place.
+pub fn on_line(fault: LineFault<SigKind>, line: u32) -> SigFault
+    ensures { result ≡ on_line line fault }
+{
+    match fault {
+        LineFault::Kind(kind) => SigFault::At { line, kind },
+        LineFault::OutOfMemory => SigFault::OutOfMemory,
     }
 }
 
-impl From<SigKind> for LineFault {
+impl From<SigKind> for LineFault<SigKind> {
     ghost use Rattle.std.specs.Prelude.{◌≡◌};
-    ghost use Rattle.signal_list.specs.declared.fault.LineFault.TheVariants.{Kind};
+    ghost use Rattle.text_words.specs.declared.fault.LineFault.TheVariants.{Kind};
 
     ghost from_gives = { λ kind e. e ≡ Kind kind };
 
-    fn from(kind: SigKind) -> LineFault {
+    fn from(kind: SigKind) -> LineFault<SigKind> {
         LineFault::Kind(kind)
-    }
-}
-
-impl From<OutOfMemory> for LineFault {
-    ghost use Rattle.std.specs.Prelude.{◌≡◌};
-    ghost use Rattle.signal_list.specs.declared.fault.LineFault.TheVariants.{OutOfMemory};
-
-    ghost from_gives = { λ _ e. e ≡ OutOfMemory };
-
-    fn from(_error: OutOfMemory) -> LineFault {
-        LineFault::OutOfMemory
     }
 }

@@ -1,7 +1,8 @@
-//! A law of the format.
+//! Laws of the format.
 
 ghost use Rattle.std.specs.Prelude.{◌≡◌, ◌⊎◌, ℕ, List};
 ghost use Rattle.aig_model.specs.declared.parts.Parts.{Parts};
+ghost use Rattle.aig_model.specs.SignalList.{IsSignals};
 ghost use Rattle.aig_model.specs.WellFormed.{IsCircuit};
 ghost use Rattle.signal_list.specs.SignalText.{SpellsSignals, IsFirstFault};
 ghost use Rattle.signal_list.specs.declared.fault.SigKind.{SigKind};
@@ -16,4 +17,9 @@ pub fn each_text_is_read_one_way()
         IsFirstFault c text m k → IsFirstFault c text n l → (m ≡ n) × (k ≡ l) }
     ensures not_both { (c : Parts) (text lits : List ℕ) (line : ℕ) (kind : SigKind) →
         SpellsSignals c text lits → ¬ IsFirstFault c text line kind }
+{}
+
+/// The signals that a text spells are signals of the circuit.
+pub fn spelled_signals_are_well_formed()
+    ensures { (c : Parts) (text lits : List ℕ) → IsCircuit c → SpellsSignals c text lits → IsSignals c lits }
 {}

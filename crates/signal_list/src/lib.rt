@@ -8,9 +8,7 @@ mod names;
 mod reading;
 mod reference;
 mod signal;
-#[cfg(test)]
-mod tests;
 
 pub use fault::{SigFault, SigKind};
-pub use law::each_text_is_read_one_way;
+pub use law::{each_text_is_read_one_way, spelled_signals_are_well_formed};
 pub use reading::read_signals;

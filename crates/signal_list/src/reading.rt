@@ -7,13 +7,13 @@ ghost use Rattle.signal_list.specs.Names.{TellsOwners, IsAsked};
 ghost use Rattle.signal_list.specs.Reading.{Joins, JoinsOf, IsKeptOut, IsFaultAfter};
 ghost use Rattle.signal_list.specs.declared.fault.SigKind.{SigKind};
 
-use crate::fault::{LineFault, SigFault, SigKind};
+use crate::fault::{SigFault, SigKind, on_line};
 use crate::line::{is_signal, trim_spaces};
 use crate::names::{Owners, owners_asked};
 use crate::signal::read_signal;
 use aig_model::{Circuit, Lit, Lits, Signals};
 use std::alloc::Global;
-use text_words::Lines;
+use text_words::{LineFault, Lines};
 
 const MOST_SIGNALS: usize = 10;
 
@@ -49,7 +49,7 @@ fn read_lits(alloc: Global, bytes: &[u8], circuit: &Circuit) -> Result<Lits, Sig
             continue;
         }
         if let Err(fault) = add_signal(&mut lits, circuit, &owners, line) {
-            return Err(fault.on_line(number));
+            return Err(on_line(fault, number));
         }
     }
     if lits.is_empty() {
@@ -67,7 +67,7 @@ fn add_signal(
     circuit: &Circuit,
     owners: &Owners<'_>,
     line: &[u8],
-) -> Result<(), LineFault>
+) -> Result<(), LineFault<SigKind>>
     requires owners { TellsOwners circuit.now.names owners.now }
     requires asked { IsAsked line.now owners.now }
     requires few { length lits.old ≤ 10 }
@@ -78,7 +78,7 @@ fn add_signal(
     join(lits, lit)
 }
 
-fn join(lits: &mut Lits, lit: Lit) -> Result<(), LineFault>
+fn join(lits: &mut Lits, lit: Lit) -> Result<(), LineFault<SigKind>>
     ensures ok { OnOk result (Joins lits.old lit lits.new) }
     ensures err { IfErr result (IsKeptOut lits.old lit) }
 {

@@ -1,6 +1,6 @@
 //! Laws of the order of gates, as clauses of functions that do nothing.
 
-ghost use Rattle.gate_order.specs.OrderLaws.{OneGateOrder, OneCycle, OrderExists, OrderOrCycle, OrderedCircuit};
+ghost use Rattle.gate_order.specs.OrderLaws.{OneGateOrder, OneCycle, OrderExists, OrderOrCycle, OrderedCircuit, SomeOrderOrCycle, StandingOrder};
 
 /// Gates have at most one order.
 pub fn one_gate_order()
@@ -25,4 +25,14 @@ pub fn order_or_cycle()
 /// Parts that are a circuit but for the order of their gates are one with their gates in order.
 pub fn ordered_circuit()
     ensures { OrderedCircuit }
+{}
+
+/// Gates that define variables of their own have an order, or one of them depends on itself.
+pub fn some_order_or_cycle()
+    ensures { SomeOrderOrCycle }
+{}
+
+/// Gates whose variables rise, each above those of its gate's inputs, are their own order.
+pub fn standing_order()
+    ensures { StandingOrder }
 {}

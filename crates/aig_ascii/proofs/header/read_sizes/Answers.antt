@@ -1,7 +1,7 @@
 use Rattle.std.proofs.Common.{◌≡◌, ℕ, take, drop, ap, ◌∙◌}
 use Rattle.std.proofs.lemmas.Result.{err_from_is_err_and}
 use Rattle.aig_ascii.specs.Header.{header_wants, sizes_in, size_at}
-use Rattle.aig_ascii.specs.Text.{fields}
+use Rattle.text_words.specs.Text.{fields}
 use Rattle.aig_ascii.specs.declared.header.Sizes.{Sizes}
 use Rattle.aig_ascii.proofs.Unmet.{says-err}
 use Rattle.aig_ascii.proofs.Wants.{wants-fail-front, wants-fail, wants-met, passes-both, number-passed}

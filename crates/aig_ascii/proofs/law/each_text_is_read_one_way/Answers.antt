@@ -1,6 +1,7 @@
 use Rattle.aig_ascii.specs.Aag.{demands}
 use Rattle.aig_ascii.proofs.RightParts.{text-apart}
 use Rattle.aig_ascii.proofs.Answering.{none-unmet, one-circuit, one-fault, no-fault}
+use Rattle.aig_ascii.proofs.Texts.{some-reading}
 use Rattle.aig_ascii.proofs.law.each_text_is_read_one_way.Goals as goal
 
 pub returns-clause-one_circuit : goal.returns-clause-one_circuit
@@ -11,3 +12,6 @@ returns-clause-one_fault c = one-fault
 
 pub returns-clause-not_both : goal.returns-clause-not_both
 returns-clause-not_both c text d at kind s f = no-fault text d at kind s f
+
+pub returns-clause-some : goal.returns-clause-some
+returns-clause-some c = some-reading

@@ -1,6 +1,5 @@
 use Rattle.std.proofs.Common.{◌≡◌}
-use Rattle.aig_ascii.specs.Text.{after_lines}
-use Rattle.aig_ascii.specs.Aag.{whole}
+use Rattle.text_words.specs.Text.{after_lines, whole}
 use Rattle.aig_ascii.proofs.reading.line_place.Given as goal
 
 abbrev pub invariant-loop-left : goal.invariant-loop-left

@@ -3,10 +3,11 @@ use Rattle.std.proofs.lemmas.Result.{err_from_is_err_and}
 use Rattle.aig_model.specs.declared.parts.Parts.{Parts}
 use Rattle.gate_order.specs.GateOrder.{DefineApart, IsGateOrder}
 use Rattle.gate_order.specs.OrderLaws.{IsUnordered}
+use Rattle.gate_order.specs.StandingGates.{StandInOrder}
 use Rattle.aig_ascii.specs.Aag.{layout_of, parts_in, SpellsCircuit, IsFault, IsFirstFault, Answers}
 use Rattle.gate_order.specs.declared.order.fault.OrderFault.{OrderFault}
 use Rattle.aig_ascii.proofs.RightParts.{text-unordered, text-apart, parts-sized}
-use Rattle.aig_ascii.proofs.Answering.{fault-unmet, no-circuit, this-fault, circuit-spelled, one-circuit, no-fault, cycle-side, order-fault, order-no-circuit, order-this-fault}
+use Rattle.aig_ascii.proofs.Answering.{fault-unmet, no-circuit, this-fault, circuit-spelled, standing-spelled, one-circuit, no-fault, cycle-side, order-fault, order-no-circuit, order-this-fault}
 use Rattle.aig_ascii.proofs.reading.read_aag.Goals as goal
 
 pub returns-in_err-parts-clause-fault : goal.returns-in_err-parts-clause-fault
@@ -23,6 +24,30 @@ pub returns-in_err-parts-clause-every_fault : goal.returns-in_err-parts-clause-e
 returns-in_err-parts-clause-every_fault c at kind f =
     let p = err_from_is_err_and c.from_residual.result c.from_residual.ensures.1 in
     rw (p.1, p.2) (this-fault c.args.bytes.now c.in_err-parts.field-0.0 at kind c.in_err-parts.ensures.demands f)
+
+pub standing-requires-clause-unordered : goal.standing-requires-clause-unordered
+standing-requires-clause-unordered c =
+    subst (λ (x : Parts). IsUnordered x) (sym c.in_ok-parts.ensures.parts) (text-unordered c.args.bytes.now c.in_ok-parts.ensures.few c.in_ok-parts.ensures.demands)
+
+pub standing-requires-clause-stand : goal.standing-requires-clause-stand
+standing-requires-clause-stand c = subst StandInOrder c.as_slice.ensures (c.stand_in_order.ensures.0 c.if-stand_in_order.true)
+
+pub returns-then-stand_in_order-clause-circuit : goal.returns-then-stand_in_order-clause-circuit
+returns-then-stand_in_order-clause-circuit c =
+    let stand = subst StandInOrder c.as_slice.ensures (c.stand_in_order.ensures.0 c.if-stand_in_order.true) in
+    standing-spelled c.args.bytes.now c.in_ok-parts.parts c.standing.result c.in_ok-parts.ensures.demands c.in_ok-parts.ensures.parts stand c.standing.ensures
+
+pub returns-then-stand_in_order-clause-every_circuit : goal.returns-then-stand_in_order-clause-every_circuit
+returns-then-stand_in_order-clause-every_circuit c d s =
+    let stand = subst StandInOrder c.as_slice.ensures (c.stand_in_order.ensures.0 c.if-stand_in_order.true) in
+    let own = standing-spelled c.args.bytes.now c.in_ok-parts.parts c.standing.result c.in_ok-parts.ensures.demands c.in_ok-parts.ensures.parts stand c.standing.ensures in
+    inl (ap (λ (x : Parts). Ok x) (one-circuit c.args.bytes.now c.standing.result d (text-apart c.args.bytes.now c.in_ok-parts.ensures.demands) own s))
+
+pub returns-then-stand_in_order-clause-every_fault : goal.returns-then-stand_in_order-clause-every_fault
+returns-then-stand_in_order-clause-every_fault c at kind f =
+    let stand = subst StandInOrder c.as_slice.ensures (c.stand_in_order.ensures.0 c.if-stand_in_order.true) in
+    let own = standing-spelled c.args.bytes.now c.in_ok-parts.parts c.standing.result c.in_ok-parts.ensures.demands c.in_ok-parts.ensures.parts stand c.standing.ensures in
+    absurd (no-fault c.args.bytes.now c.standing.result at kind own f)
 
 pub order_gates-requires : goal.order_gates-requires
 order_gates-requires c = subst (λ (x : Parts). DefineApart x.gates) (sym c.in_ok-parts.ensures.parts) (text-apart c.args.bytes.now c.in_ok-parts.ensures.demands)

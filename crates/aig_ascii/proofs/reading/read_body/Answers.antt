@@ -1,7 +1,7 @@
 use Rattle.std.proofs.Common.{◌≡◌, List, [], ◌++◌, None, sym, ap, ◌∙◌, subst}
 use Rattle.std.proofs.lemmas.Result.{err_from_is_err_and}
 use Rattle.aig_model.specs.WellFormed.{definers}
-use Rattle.aig_ascii.specs.Text.{Rest, all_lines}
+use Rattle.text_words.specs.Text.{Rest, all_lines}
 use Rattle.aig_ascii.specs.Sections.{use_demands}
 use Rattle.aig_ascii.specs.Symbols.{symbol_lines, symbol_demands}
 use Rattle.aig_ascii.specs.Aag.{layout_from, parts_in, uses_in, body_demands}

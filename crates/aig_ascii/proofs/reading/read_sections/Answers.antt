@@ -1,6 +1,6 @@
 use Rattle.std.proofs.Common.{◌≡◌, List, [], ◌∷◌, ◌++◌, map, None, sym, ap, ◌∙◌, subst, append_assoc}
 use Rattle.std.proofs.lemmas.Result.{err_from_is_err_and}
-use Rattle.aig_ascii.specs.Text.{Rest}
+use Rattle.text_words.specs.Text.{Rest}
 use Rattle.aig_ascii.specs.Sections.{input, latch, plain, gate, lits_of, section_demands, section_uses}
 use Rattle.aig_ascii.specs.Drafts.{Draft, definers_of, use_of, StandFor}
 use Rattle.aig_ascii.specs.Aag.{layout_from}

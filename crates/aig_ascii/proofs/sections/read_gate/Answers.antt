@@ -1,6 +1,6 @@
 use Rattle.std.proofs.Common.{◌≡◌, ℕ, None, List, [], ◌∷◌, ◌++◌, map, take, drop, get_or, sym, ap, ◌∙◌, subst, append_assoc}
 use Rattle.std.proofs.lemmas.Result.{err_from_is_err_and}
-use Rattle.aig_ascii.specs.Text.{fields, number}
+use Rattle.text_words.specs.Text.{fields, number}
 use Rattle.aig_ascii.specs.Fields.{want_demands}
 use Rattle.aig_ascii.specs.Sections.{in_range, defining, literal}
 use Rattle.aig_ascii.specs.Drafts.{Draft, definers_of, use_of, StandFor}

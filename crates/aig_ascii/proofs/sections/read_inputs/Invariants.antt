@@ -1,5 +1,5 @@
 use Rattle.std.proofs.Common.{◌≡◌, ◌++◌}
-use Rattle.aig_ascii.specs.Text.{after_lines}
+use Rattle.text_words.specs.Text.{after_lines}
 use Rattle.aig_ascii.specs.Sections.{input, section_demands, lits_of}
 use Rattle.aig_ascii.specs.Drafts.{definers_of}
 use Rattle.aig_ascii.specs.Reading.{first_unmet}

@@ -1,6 +1,6 @@
 use Rattle.std.proofs.Common.{◌≡◌, ℕ, None, [], ◌∷◌, subst}
 use Rattle.std.proofs.lemmas.Result.{err_from_is_err_and}
-use Rattle.aig_ascii.specs.Text.{fields}
+use Rattle.text_words.specs.Text.{fields}
 use Rattle.aig_ascii.specs.Fields.{optional, want_demands}
 use Rattle.aig_ascii.specs.Sections.{defining, literal, is_reset, number_at}
 use Rattle.aig_ascii.specs.Drafts.{definers_of}

@@ -1,6 +1,6 @@
 use Rattle.std.proofs.Common.{◌≡◌, length, sym, ap, ◌∙◌, subst, arith}
 use Rattle.std.proofs.lemmas.Result.{err_from_is_err_and}
-use Rattle.aig_ascii.specs.Text.{Rest}
+use Rattle.text_words.specs.Text.{Rest}
 use Rattle.aig_ascii.specs.SymbolTables.{Table}
 use Rattle.aig_ascii.proofs.Unmet.{says-err}
 use Rattle.aig_ascii.proofs.SymbolLines.{symbols-fail, symbols-go, names-go, line_after-shorter}

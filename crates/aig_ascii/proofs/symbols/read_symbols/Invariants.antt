@@ -1,5 +1,5 @@
 use Rattle.std.proofs.Common.{◌≡◌, ◌++◌, [], length}
-use Rattle.aig_ascii.specs.Text.{all_lines}
+use Rattle.text_words.specs.Text.{all_lines}
 use Rattle.aig_ascii.specs.Symbols.{symbol_lines, symbol_demands, symbols_of}
 use Rattle.aig_ascii.specs.Reading.{first_unmet}
 use Rattle.aig_ascii.proofs.symbols.read_symbols.Given as goal
