@@ -1,0 +1,10 @@
+pub mod Agreement
+pub mod Appended
+pub mod BadLiterals
+pub mod DefinedTest
+pub mod Extension
+pub mod Form
+pub mod LevelGates
+pub mod Reach
+pub mod Restriction
+pub mod Values

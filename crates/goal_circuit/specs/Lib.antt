@@ -1,0 +1,2 @@
+pub mod GoalCircuit
+pub mod Laws
