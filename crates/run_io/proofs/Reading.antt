@@ -3,7 +3,7 @@ use Rattle.std.proofs.Common.{◌≡◌, ℕ, List, ◌++◌, length, take, drop
 use Rattle.std.proofs.lemmas.List.{take-append-drop}
 use Rattle.std.proofs.Math.Seq.{drop-append_seam}
 use Rattle.std.specs.declared.option.Option.{Option}
-use Rattle.run_io.specs.Desk.{IsPast, IsFront, Gives}
+use Rattle.run_io.specs.Desk.{DeskState, IsPast, IsFront, Gives}
 
 -- what is left after these bytes of a text
 pub record Rest (text bytes : List ℕ) (left : Option (List ℕ)) : Type 0 where
@@ -40,9 +40,9 @@ rest_past (Some whole) now given bytes counted part = (
 )
 
 -- what was given and what is left, one piece later
-pub past_more : {D : Type 0} (left : D → Option (List ℕ)) (given : D → ℕ) (old new : D) (before : Option (List ℕ)) (bytes piece : List ℕ) (count : ℕ)
-    → Reading before (left old) (given old) bytes → Gives left given old new piece count → IsPast before (left new) (given new)
-past_more left given old new before bytes piece count reading gives =
-    rest_past before (left new) (given new) (bytes ++ take count piece)
+pub past_more : (old new : DeskState) (before : Option (List ℕ)) (bytes piece : List ℕ) (count : ℕ)
+    → Reading before old.left old.given bytes → Gives old new piece count → IsPast before new.left new.given
+past_more old new before bytes piece count reading gives =
+    rest_past before new.left new.given (bytes ++ take count piece)
     (omega (arith, reading.counted, gives.counted, gives.fits, length-append bytes (take count piece), length-take count piece))
-    (rest_more before (left old) (left new) bytes piece count reading.part gives.told)
+    (rest_more before old.left new.left bytes piece count reading.part gives.told)

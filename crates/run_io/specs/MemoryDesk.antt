@@ -1,6 +1,8 @@
 -- The files of a desk in memory.
-use Rattle.std.specs.Prelude.{ℕ, Bool, List, find, bytes_eq, slice_get, option_map}
+use Rattle.std.specs.Prelude.{ℕ, Bool, List, find, bytes_eq, slice_get, option_map, map}
 use Rattle.std.specs.declared.option.Option.{Option}
+use Rattle.std.specs.Global.{Vec}
+use Rattle.run_io.specs.Desk.{FileGiven}
 use Rattle.run_io.specs.Numbered.{Numbered}
 use Rattle.run_io.specs.declared.file_text.FileText.{FileText}
 
@@ -20,11 +22,16 @@ name_at files place = option_map (λ (file : FileText). file.name.items) (slice_
 abbrev pub text_at : List FileText → ℕ → Option (List ℕ)
 text_at files place = option_map (λ (file : FileText). file.bytes.items) (slice_get files place)
 
+-- files of which names and counts were noted
+abbrev pub noted_files : List (Vec ℕ × ℕ) → List FileGiven
+noted_files notes = map (λ (note : Vec ℕ × ℕ). (note.0.items, note.1)) notes
+
 -- what a desk in memory shows
 pub record DeskInMemory : Type 0 where
   pub files : List FileText
   pub calls : Numbered
   pub faults : ℕ
+  pub earlier : List FileGiven
   pub started : Option (List ℕ)
   pub left : Option (List ℕ)
   pub given : ℕ

@@ -1,37 +1,40 @@
 //! A desk over real files.
 
-ghost use Rattle.std.specs.Prelude.{◌≡◌, ◌≤◌, length, None, OnSome};
+ghost use Rattle.std.specs.Prelude.{◌≡◌, ◌≤◌, [], length, None, OnSome};
 
 use crate::desk::{Desk, Failed};
+use crate::name::{NAME_ROOM, Name};
+use http_server::Log;
 use std::fs::File;
 use std::io::Read;
 use std::marker::Model;
 use std::rt::Files;
 
-/// How long the name of a started file may be.
-const NAME_ROOM: usize = 4096;
-
-/// Real files, of whose content nothing is told. One count of faults stands for every name.
+/// Real files. One count of faults stands for every name.
 ///
 /// A name of more than 4,096 bytes, or one that isn't UTF-8, is a fault.
 #[derive(Drop)]
 pub struct HostDesk<'r, R: Files> {
     files: &'r R,
     file: Option<R::File>,
-    name: [u8; NAME_ROOM],
-    name_len: usize,
+    name: Name,
     given: u64,
+    /// Takes no memory: contracts alone see it.
+    earlier: Log<Name, u64>,
     faults: u64,
 }
 
 impl<'r, R: Files> Model for HostDesk<'r, R> {
-    ghost use Rattle.std.specs.Prelude.{if◌then◌else◌, is_some, take, Some, None};
+    ghost use Rattle.std.specs.Prelude.{if◌then◌else◌, is_some, Some, None};
+    ghost use Rattle.std.specs.Option.{option_and_then};
     ghost use Rattle.run_io.specs.Host.{DeskOnHost};
 
     ghost Value = { DeskOnHost };
 
     ghost view = { λ desk. record {
-      started = if is_some desk.file then Some (take desk.name_len desk.name) else None;
+      earlier = desk.earlier.items;
+      started = if is_some desk.file then Some desk.name else None;
+      left = option_and_then R.File.remaining desk.file;
       given = desk.given;
       faults = desk.faults;
     } };
@@ -39,38 +42,41 @@ impl<'r, R: Files> Model for HostDesk<'r, R> {
 
 impl<'r, R: Files> HostDesk<'r, R> {
     pub fn new(files: &'r R) -> HostDesk<'r, R>
-        ensures { result ≡ record { started = None; given = 0; faults = 0 } }
+        ensures { result ≡ record { earlier = []; started = None; left = None; given = 0; faults = 0 } }
     {
         HostDesk {
             files,
             file: None,
-            name: [0; NAME_ROOM],
-            name_len: 0,
+            name: Name::new(),
             given: 0,
+            earlier: Log::new(),
             faults: 0,
         }
     }
 }
 
 impl<'r, R: Files> Desk for HostDesk<'r, R> {
-    ghost text = { λ _ _. None };
+    ghost use Rattle.std.specs.Prelude.{None};
 
-    ghost started = { λ desk. desk.started };
-
-    ghost left = { λ _. None };
-
-    ghost given = { λ desk. desk.given };
-
-    ghost faults = { λ desk _. desk.faults };
+    ghost state = { λ desk. record {
+      text = λ _. None;
+      earlier = desk.earlier;
+      started = desk.started;
+      left = desk.left;
+      given = desk.given;
+      faults = λ _. desk.faults;
+    } };
 
     fn start_file(&mut self, name: &[u8]) -> Result<(), Failed> {
         let Some(file) = opened(self.files, name) else {
             self.faults = self.faults.saturating_add(1);
             return Err(Failed);
         };
+        if self.file.is_some() {
+            self.earlier = self.earlier.and(&self.name, &self.given);
+        }
         self.file = Some(file);
-        self.name[..name.len()].copy_from_slice(name);
-        self.name_len = name.len();
+        self.name.set(name);
         self.given = 0;
         Ok(())
     }

@@ -7,28 +7,32 @@ use crate::sink::Sink;
 use std::io::Write;
 use std::marker::Model;
 
-/// Hands what it is given on to a writer, counts what fails, and tells nothing of content.
+/// Hands what it is given on to a writer, and counts what fails.
 ///
 /// An `Ok` says that the writer took the bytes: give it one without a buffer of its own, as
 /// standard output or a file.
 #[derive(Drop)]
-pub struct HostSink<W> {
+pub struct HostSink<W: Write> {
     writer: W,
     faults: u64,
     idle: u64,
 }
 
-impl<W> Model for HostSink<W> {
+impl<W: Write> Model for HostSink<W> {
     ghost use Rattle.run_io.specs.Host.{SinkOnHost};
 
     ghost Value = { SinkOnHost };
 
-    ghost view = { λ sink. record { faults = sink.faults; idle = sink.idle } };
+    ghost view = { λ sink. record {
+      contents = W.contents sink.writer;
+      faults = sink.faults;
+      idle = sink.idle;
+    } };
 }
 
-impl<W> HostSink<W> {
+impl<W: Write> HostSink<W> {
     pub fn new(writer: W) -> HostSink<W>
-        ensures { result ≡ record { faults = 0; idle = 0 } }
+        ensures { result ≡ record { contents = W.contents writer; faults = 0; idle = 0 } }
     {
         HostSink {
             writer,
@@ -39,13 +43,7 @@ impl<W> HostSink<W> {
 }
 
 impl<W: Write> Sink for HostSink<W> {
-    ghost use Rattle.std.specs.Prelude.{None};
-
-    ghost taken = { λ _. None };
-
-    ghost faults = { λ sink. sink.faults };
-
-    ghost idle = { λ sink. sink.idle };
+    ghost state = { λ sink. record { taken = sink.contents; faults = sink.faults; idle = sink.idle } };
 
     fn write(&mut self, piece: &[u8]) -> Result<usize, Failed> {
         let Ok(count) = self.writer.write(piece) else {

@@ -7,6 +7,7 @@ mod host_desk;
 mod host_sink;
 mod memory_desk;
 mod memory_sink;
+mod name;
 mod numbered;
 mod read;
 mod sink;

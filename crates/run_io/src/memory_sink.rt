@@ -1,6 +1,6 @@
 //! A sink in memory.
 
-ghost use Rattle.std.specs.Prelude.{◌≡◌, ℕ, ◌-◌, ◌<◌, ◌↔◌, [], ◌++◌, length, min, take, Some, Contains, IsErr, IfOk, OnErr};
+ghost use Rattle.std.specs.Prelude.{◌≡◌, ℕ, ◌-◌, ◌<◌, ◌↔◌, [], ◌++◌, length, min, take, Some, Contains, IsErr, IfOk, OnOk, OnErr};
 ghost use Rattle.run_io.specs.Count.{Rose, CountsOn, next_count};
 ghost use Rattle.run_io.specs.Numbered.{NextFails, after_call};
 
@@ -70,7 +70,7 @@ impl MemorySink {
 
     pub fn taken(&self) -> &[u8]
         ensures bytes { result.now ≡ self.now.taken }
-        ensures told { ⟦<MemorySink as Sink>⟧.taken self.now ≡ Some result.now }
+        ensures told { (⟦<MemorySink as Sink>⟧.state self.now).taken ≡ Some result.now }
     {
         self.bytes.as_slice()
     }
@@ -79,11 +79,11 @@ impl MemorySink {
 impl Sink for MemorySink {
     ghost use Rattle.std.specs.Prelude.{Some};
 
-    ghost taken = { λ sink. Some sink.taken };
-
-    ghost faults = { λ sink. sink.faults };
-
-    ghost idle = { λ sink. sink.idle };
+    ghost state = { λ sink. record {
+      taken = Some sink.taken;
+      faults = sink.faults;
+      idle = sink.idle;
+    } };
 
     fn write(&mut self, piece: &[u8]) -> Result<usize, Failed>
         ensures fails { IsErr result ↔ NextFails self.old.writes }
@@ -97,6 +97,7 @@ impl Sink for MemorySink {
         ensures ok { IfOk result (λ count. self.new.taken ≡ self.old.taken ++ take count piece.now) }
         ensures nothing { IfOk result (λ count. count ≡ 0 → 0 < length piece.now →
             Rose self.old.idle self.new.idle) }
+        ensures no_fault { OnOk result (self.new.faults ≡ self.old.faults) }
         ensures failed { OnErr result (self.new.faults ≡ next_count self.old.faults) }
         ensures kept { OnErr result (self.new.taken ≡ self.old.taken) }
     {

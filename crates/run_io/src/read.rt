@@ -1,8 +1,8 @@
 //! A whole file, read from a desk.
 
 ghost use Rattle.std.specs.Prelude.{◌≡◌, ℕ, ◌+◌, ◌<◌, ◌≤◌, ◌^◌, ◌↔◌, ◌⊎◌, List, length, Some, IsSome, OnOk, IfOk, IfSome, IsErrOf};
-ghost use Rattle.run_io.specs.Count.{Rose, CountsOn};
-ghost use Rattle.run_io.specs.Desk.{IsOpen, IsPast, IsKept};
+ghost use Rattle.run_io.specs.Count.{Rose};
+ghost use Rattle.run_io.specs.Desk.{HasSameTexts, HasSameFaults, CountsFaults, IsOpen, IsPast, IsKept};
 
 use crate::desk::{Desk, Failed};
 use ketch_base::OutOfMemory;
@@ -54,37 +54,34 @@ pub fn read_file<D: Desk>(
 ) -> Result<Vec<u8>, ReadFault>
     requires { limit ≤ 2 ^ 40 }
 
-    ensures text { (n : List ℕ) → D.text desk.new n ≡ D.text desk.old n }
-    ensures counts { (n : List ℕ) → CountsOn (D.faults desk.old n) (D.faults desk.new n) }
+    ensures text { HasSameTexts (D.state desk.old) (D.state desk.new) }
+    ensures counts { CountsFaults (D.state desk.old) (D.state desk.new) }
 
-    ensures whole { IfOk result (λ bytes. IfSome (D.text desk.old name.now) (λ text. bytes.items ≡ text)) }
+    ensures whole { IfOk result (λ bytes. IfSome ((D.state desk.old).text name.now) (λ text. bytes.items ≡ text)) }
     ensures within { IfOk result (λ bytes. length bytes.items ≤ limit) }
-    ensures counted { IfOk result (λ bytes. D.given desk.new ≡ length bytes.items) }
-    ensures opened { OnOk result
-        (IsOpen D.started D.left D.given desk.new name.now (D.text desk.old name.now)) }
+    ensures counted { IfOk result (λ bytes. (D.state desk.new).given ≡ length bytes.items) }
+    ensures opened { OnOk result (IsOpen (D.state desk.old) (D.state desk.new) name.now) }
 
+    ensures no_fault { ¬ IsErrOf result ReadFault.Failed → HasSameFaults (D.state desk.old) (D.state desk.new) }
     ensures failed { IsErrOf result ReadFault.Failed →
-        Rose (D.faults desk.old name.now) (D.faults desk.new name.now) }
+        Rose ((D.state desk.old).faults name.now) ((D.state desk.new).faults name.now) }
     ensures failed_at { IsErrOf result ReadFault.Failed →
-        IsKept D.started D.left D.given desk.old desk.new
-        ⊎ (IsOpen D.started D.left D.given desk.new name.now (D.text desk.old name.now)
-        × (D.given desk.new ≤ limit)) }
+        IsKept (D.state desk.old) (D.state desk.new)
+        ⊎ (IsOpen (D.state desk.old) (D.state desk.new) name.now × ((D.state desk.new).given ≤ limit)) }
 
     ensures too_long { IsErrOf result ReadFault.TooLong →
-        IfSome (D.text desk.old name.now) (λ text. limit < length text) }
+        IfSome ((D.state desk.old).text name.now) (λ text. limit < length text) }
     ensures too_long_at { IsErrOf result ReadFault.TooLong →
-        IsOpen D.started D.left D.given desk.new name.now (D.text desk.old name.now)
-        × (D.given desk.new ≡ limit + 1) }
+        IsOpen (D.state desk.old) (D.state desk.new) name.now × ((D.state desk.new).given ≡ limit + 1) }
 
     ensures out_of_memory_at { IsErrOf result ReadFault.OutOfMemory →
-        IsOpen D.started D.left D.given desk.new name.now (D.text desk.old name.now)
-        × (D.given desk.new ≤ limit) }
+        IsOpen (D.state desk.old) (D.state desk.new) name.now × ((D.state desk.new).given ≤ limit) }
 
     // Either the start failed, or the file was started, and is too long exactly where a byte
     // past the limit was given.
-    ensures exact { (IsErrOf result ReadFault.Failed × IsKept D.started D.left D.given desk.old desk.new)
-        ⊎ ((D.started desk.new ≡ Some name.now)
-        × (IsErrOf result ReadFault.TooLong ↔ (D.given desk.new ≡ limit + 1))) }
+    ensures exact { (IsErrOf result ReadFault.Failed × IsKept (D.state desk.old) (D.state desk.new))
+        ⊎ (((D.state desk.new).started ≡ Some name.now)
+        × (IsErrOf result ReadFault.TooLong ↔ ((D.state desk.new).given ≡ limit + 1))) }
 {
     desk.start_file(name)?;
     let bytes = read_rest(alloc, desk, limit)?;
@@ -94,23 +91,25 @@ pub fn read_file<D: Desk>(
 /// What is left of a file that was just started, of at most `limit` bytes.
 fn read_rest<D: Desk>(alloc: Global, desk: &mut D, limit: u64) -> Result<Vec<u8>, ReadFault>
     requires small { limit ≤ 2 ^ 40 }
-    requires started { IsSome (D.started desk.old) }
-    requires fresh { D.given desk.old ≡ 0 }
+    requires started { IsSome (D.state desk.old).started }
+    requires fresh { (D.state desk.old).given ≡ 0 }
 
-    ensures text { (n : List ℕ) → D.text desk.new n ≡ D.text desk.old n }
-    ensures counts { (n : List ℕ) → CountsOn (D.faults desk.old n) (D.faults desk.new n) }
-    ensures started { D.started desk.new ≡ D.started desk.old }
-    ensures left { IsPast (D.left desk.old) (D.left desk.new) (D.given desk.new) }
+    ensures text { HasSameTexts (D.state desk.old) (D.state desk.new) }
+    ensures counts { CountsFaults (D.state desk.old) (D.state desk.new) }
+    ensures started { (D.state desk.new).started ≡ (D.state desk.old).started }
+    ensures earlier { (D.state desk.new).earlier ≡ (D.state desk.old).earlier }
+    ensures left { IsPast (D.state desk.old).left (D.state desk.new).left (D.state desk.new).given }
 
-    ensures whole { IfOk result (λ bytes. IfSome (D.left desk.old) (λ rest. bytes.items ≡ rest)) }
+    ensures whole { IfOk result (λ bytes. IfSome (D.state desk.old).left (λ rest. bytes.items ≡ rest)) }
     ensures within { IfOk result (λ bytes. length bytes.items ≤ limit) }
-    ensures counted { IfOk result (λ bytes. D.given desk.new ≡ length bytes.items) }
+    ensures counted { IfOk result (λ bytes. (D.state desk.new).given ≡ length bytes.items) }
 
-    ensures failed { IsErrOf result ReadFault.Failed → (n : List ℕ) → D.started desk.old ≡ Some n →
-        Rose (D.faults desk.old n) (D.faults desk.new n) }
-    ensures failed_at { IsErrOf result ReadFault.Failed → D.given desk.new ≤ limit }
-    ensures too_long_at { IsErrOf result ReadFault.TooLong → D.given desk.new ≡ limit + 1 }
-    ensures out_of_memory_at { IsErrOf result ReadFault.OutOfMemory → D.given desk.new ≤ limit }
+    ensures no_fault { ¬ IsErrOf result ReadFault.Failed → HasSameFaults (D.state desk.old) (D.state desk.new) }
+    ensures failed { IsErrOf result ReadFault.Failed → (n : List ℕ) → (D.state desk.old).started ≡ Some n →
+        Rose ((D.state desk.old).faults n) ((D.state desk.new).faults n) }
+    ensures failed_at { IsErrOf result ReadFault.Failed → (D.state desk.new).given ≤ limit }
+    ensures too_long_at { IsErrOf result ReadFault.TooLong → (D.state desk.new).given ≡ limit + 1 }
+    ensures out_of_memory_at { IsErrOf result ReadFault.OutOfMemory → (D.state desk.new).given ≤ limit }
 {
     let mut bytes = Vec::new(alloc);
     let mut piece = [0u8; PIECE];

@@ -1,6 +1,6 @@
 //! Bytes written whole to a sink.
 
-ghost use Rattle.std.specs.Prelude.{OnOk, IsErrOf};
+ghost use Rattle.std.specs.Prelude.{◌≡◌, OnOk, IsErrOf};
 ghost use Rattle.run_io.specs.Count.{Rose, CountsOn};
 ghost use Rattle.run_io.specs.Sink.{Grew, GrewByPrefix};
 
@@ -18,13 +18,14 @@ pub enum WriteFault {
 
 /// Writes all of `bytes`, in as many writes as that takes, and takes no memory.
 pub fn write_all<S: Sink>(sink: &mut S, bytes: &[u8]) -> Result<(), WriteFault>
-    ensures counts { CountsOn (S.faults sink.old) (S.faults sink.new) }
-    ensures idle_counts { CountsOn (S.idle sink.old) (S.idle sink.new) }
+    ensures counts { CountsOn (S.state sink.old).faults (S.state sink.new).faults }
+    ensures idle_counts { CountsOn (S.state sink.old).idle (S.state sink.new).idle }
 
-    ensures ok { OnOk result (Grew (S.taken sink.old) (S.taken sink.new) bytes.now) }
-    ensures prefix { GrewByPrefix (S.taken sink.old) (S.taken sink.new) bytes.now }
-    ensures failed { IsErrOf result WriteFault.Failed → Rose (S.faults sink.old) (S.faults sink.new) }
-    ensures nothing { IsErrOf result WriteFault.TookNothing → Rose (S.idle sink.old) (S.idle sink.new) }
+    ensures ok { OnOk result (Grew (S.state sink.old).taken (S.state sink.new).taken bytes.now) }
+    ensures no_fault { OnOk result ((S.state sink.new).faults ≡ (S.state sink.old).faults) }
+    ensures prefix { GrewByPrefix (S.state sink.old).taken (S.state sink.new).taken bytes.now }
+    ensures failed { IsErrOf result WriteFault.Failed → Rose (S.state sink.old).faults (S.state sink.new).faults }
+    ensures nothing { IsErrOf result WriteFault.TookNothing → Rose (S.state sink.old).idle (S.state sink.new).idle }
 {
     let mut at = 0;
     while at < bytes.len() {

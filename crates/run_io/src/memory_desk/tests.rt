@@ -1,5 +1,7 @@
 //! Files in memory, read whole, in part and not at all.
 
+ghost use Rattle.std.specs.Prelude.{◌≡◌, ◌+◌, ◌≤◌, ◌^◌, IsSome};
+
 use super::*;
 use crate::read::{ReadFault, read_file};
 use std::test::Fail;
@@ -10,17 +12,54 @@ fn file(alloc: Global, name: &[u8], bytes: &[u8]) -> Result<FileText, OutOfMemor
     Ok(FileText { name, bytes })
 }
 
+fn add(
+    alloc: Global,
+    files: &mut Vec<FileText>,
+    name: &[u8],
+    bytes: &[u8],
+) -> Result<(), OutOfMemory> {
+    files.push(file(alloc, name, bytes)?)?;
+    Ok(())
+}
+
 /// Two files of one name, one of several pieces, and an empty one.
 fn desk_of(alloc: Global, long: &[u8], fails: &[u64]) -> Result<MemoryDesk, OutOfMemory> {
     let mut files = Vec::new(alloc);
-    files.push(file(alloc, b"short", b"one")?)?;
-    files.push(file(alloc, b"short", b"another")?)?;
-    files.push(file(alloc, b"long", long)?)?;
-    files.push(file(alloc, b"empty", b"")?)?;
-    let fails = fails.to_vec(alloc)?;
-    let desk = MemoryDesk::new(alloc, files, fails)?;
-    Ok(desk)
+    add(alloc, &mut files, b"short", b"one")?;
+    add(alloc, &mut files, b"short", b"another")?;
+    add(alloc, &mut files, b"long", long)?;
+    add(alloc, &mut files, b"empty", b"")?;
+    MemoryDesk::new(alloc, files, fails.to_vec(alloc)?)
 }
+
+const FAILED: Result<&'static [u8], ReadFault> = Err(ReadFault::Failed);
+
+const TOO_LONG: Result<&'static [u8], ReadFault> = Err(ReadFault::TooLong);
+
+const LONG: &[u8] = &[7; 10000];
+
+/// A name, the limit, the calls that fail, and the answer.
+type Row = (
+    &'static str,
+    u16,
+    &'static [u64],
+    Result<&'static [u8], ReadFault>,
+);
+
+const ROWS: [Row; 12] = [
+    ("short", 3, &[], Ok(b"one")),
+    ("short", 2, &[], TOO_LONG),
+    ("long", 10000, &[], Ok(LONG)),
+    ("long", 9999, &[], TOO_LONG),
+    ("long", 0, &[], TOO_LONG),
+    ("empty", 0, &[], Ok(b"")),
+    ("absent", 9, &[], FAILED),
+    ("short", 3, &[1], FAILED),
+    ("short", 3, &[9, 2], FAILED),
+    ("short", 3, &[3, 3], FAILED),
+    ("short", 3, &[4, 0], Ok(b"one")),
+    ("long", 10000, &[4], FAILED),
+];
 
 fn is_found(found: &Result<Vec<u8>, ReadFault>, wanted: Result<&[u8], ReadFault>) -> bool {
     match (found, wanted) {
@@ -30,49 +69,45 @@ fn is_found(found: &Result<Vec<u8>, ReadFault>, wanted: Result<&[u8], ReadFault>
     }
 }
 
+fn is_met(alloc: Global, row: Row) -> Result<bool, OutOfMemory> {
+    let (name, limit, fails, wanted) = row;
+    let mut desk = desk_of(alloc, LONG, fails)?;
+    let found = read_file(alloc, &mut desk, name.as_bytes(), u64::from(limit));
+    Ok(is_found(&found, wanted))
+}
+
 #[test]
 fn reads_files(rt: HostRuntime) -> Result<(), Fail> {
-    let alloc = rt.alloc();
-    let long = vec![in alloc; 7u8; 10000]?;
-    let long = long.as_slice();
-    let failed = Err(ReadFault::Failed);
-    let too_long = Err(ReadFault::TooLong);
-    let none = [0u64; 0];
-    let none = none.as_slice();
-    let cases = [
-        ("short", 3u16, none, Ok(b"one".as_slice())),
-        ("short", 2, none, too_long),
-        ("long", 10000, none, Ok(long)),
-        ("long", 9999, none, too_long),
-        ("long", 0, none, too_long),
-        ("empty", 0, none, Ok(b"".as_slice())),
-        ("absent", 9, none, failed),
-        ("short", 3, [1].as_slice(), failed),
-        ("short", 3, [9, 2].as_slice(), failed),
-        ("short", 3, [3, 3].as_slice(), failed),
-        ("short", 3, [4, 0].as_slice(), Ok(b"one".as_slice())),
-        ("long", 10000, [4].as_slice(), failed),
-    ];
-    for (name, limit, fails, wanted) in cases {
-        let mut desk = desk_of(alloc, long, fails)?;
-        let found = read_file(alloc, &mut desk, name.as_bytes(), u64::from(limit));
-        assert!(rt; is_found(&found, wanted), "{name} within {limit}");
+    for row in ROWS {
+        let (name, limit, _, _) = row;
+        assert!(rt; is_met(rt.alloc(), row)?, "{name} within {limit}");
     }
     Ok(())
 }
 
+/// Whether up to two bytes are given, or a failure, as wanted.
+fn gives(desk: &mut MemoryDesk, wanted: Result<&[u8], Failed>) -> bool
+    requires started { IsSome desk.old.started }
+    requires countable { desk.old.given ≤ 2 ^ 40 }
+    ensures started { desk.new.started ≡ desk.old.started }
+    ensures countable { desk.new.given ≤ desk.old.given + 2 }
+{
+    let mut piece = [0; 2];
+    match (desk.read(&mut piece), wanted) {
+        (Ok(count), Ok(bytes)) => &piece[..count] == bytes,
+        (Err(_), Err(_)) => true,
+        _ => false,
+    }
+}
+
 #[test]
 fn gives_what_fits(rt: HostRuntime) -> Result<(), Fail> {
-    let alloc = rt.alloc();
-    let mut desk = desk_of(alloc, b"", &[3])?;
-    let mut piece = [0; 2];
+    let mut desk = desk_of(rt.alloc(), b"", &[3])?;
     desk.start_file(b"short").expect(&rt, "a file of this name");
-    assert_eq!(rt; desk.read(&mut piece), Ok(2));
-    assert_eq!(rt; piece, [b'o', b'n']);
-    assert_eq!(rt; desk.read(&mut piece), Err(Failed));
-    assert_eq!(rt; desk.read(&mut piece), Ok(1));
-    assert_eq!(rt; piece[0], b'e');
-    assert_eq!(rt; desk.read(&mut piece), Ok(0));
-    assert_eq!(rt; desk.faults, 1);
+    assert!(rt; gives(&mut desk, Ok(b"on")));
+    assert!(rt; gives(&mut desk, Err(Failed)));
+    assert!(rt; gives(&mut desk, Ok(b"e")));
+    assert!(rt; gives(&mut desk, Ok(b"")));
+    assert!(rt; desk.faults == 1);
     Ok(())
 }

@@ -1,16 +1,20 @@
-use Rattle.std.proofs.Common.{◌≡◌, ℕ, ◌≤◌, ◌-◌, ◌+◌, List, vec_len}
-use Rattle.run_io.specs.Count.{CountsOn}
+use Rattle.std.proofs.Common.{◌≡◌, ◌≤◌, ◌-◌, ◌+◌, vec_len}
+use Rattle.run_io.specs.Desk.{HasSameTexts, HasSameFaults}
 use Rattle.run_io.proofs.Reading.{Reading}
 use Rattle.run_io.proofs.read.read_rest.Given as goal
 
 abbrev pub invariant-pieces : goal.invariant-pieces
-invariant-pieces g l = record {
-  same_text : (n : List ℕ) → g.D.Desk.text l.desk n ≡ g.D.Desk.text l.fn.desk n;
-  counts : (n : List ℕ) → CountsOn (g.D.Desk.faults l.fn.desk n) (g.D.Desk.faults l.desk n);
-  same_file : g.D.Desk.started l.desk ≡ g.D.Desk.started l.fn.desk;
-  within : vec_len l.bytes ≤ l.limit;
-  reading : Reading (g.D.Desk.left l.fn.desk) (g.D.Desk.left l.desk) (g.D.Desk.given l.desk) l.bytes.items;
-}
+invariant-pieces g l =
+    let old = g.D.Desk.state l.fn.desk in
+    let new = g.D.Desk.state l.desk in
+    record {
+      same_text : HasSameTexts old new;
+      same_faults : HasSameFaults old new;
+      same_file : new.started ≡ old.started;
+      same_earlier : new.earlier ≡ old.earlier;
+      within : vec_len l.bytes ≤ l.limit;
+      reading : Reading old.left new.left new.given l.bytes.items;
+    }
 
 abbrev pub decreases-pieces : goal.decreases-pieces
 decreases-pieces g l = l.limit + 1 - vec_len l.bytes
