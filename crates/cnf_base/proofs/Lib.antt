@@ -1,9 +1,9 @@
-pub mod Judging
+pub mod HeaderLine
 pub mod Literals
 pub mod Numbers
 pub mod Placed
-pub mod Spelling
 pub mod Runs
-pub mod Heading
+pub mod SpelledWords
+pub mod Status
 pub mod Whole
 pub mod WrittenBack

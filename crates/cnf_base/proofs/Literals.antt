@@ -1,8 +1,8 @@
 -- Literals in lists.
-use Rattle.std.proofs.Common.{◌≡◌, zero, suc, Bool, true, false, cond, ◌&&◌, ◌||◌, ℤ, pos, negsuc, neg_ℤ, List, [], ◌∷◌, ◌++◌, filter, refl, ap, sym, ◌∙◌, subst, arith, inl, inr}
+use Rattle.std.proofs.Common.{◌≡◌, zero, suc, Bool, true, false, cond, ◌&&◌, ◌||◌, ℤ, pos, negsuc, neg_ℤ, nat_abs, List, [], ◌∷◌, ◌++◌, filter, refl, ap, sym, ◌∙◌, subst, arith, inl, inr}
 use Rattle.std.proofs.lemmas.Bool.{eqb-true, eq-eqb, or_cases, or_left, or_right, or_parts, cases_Bool, both_ways, and_right}
 use Rattle.std.specs.List.{list_any}
-use Rattle.cnf_base.specs.Judged.{same_lit, has}
+use Rattle.cnf_base.specs.Status.{same_lit, has}
 
 pub same_tests : (x y : Bool) → (x ≡ true → y ≡ true) → (y ≡ true → x ≡ true) → x ≡ y
 same_tests true true f g = refl
@@ -24,16 +24,15 @@ pub same_lit-itself : (a : ℤ) → same_lit a a ≡ true
 same_lit-itself (pos a) = eq-eqb a a refl
 same_lit-itself (negsuc a) = eq-eqb a a refl
 
-pub same_lit-swap : (a b : ℤ) → same_lit a b ≡ same_lit b a
-same_lit-swap (pos a) (pos b) = grind arith
-same_lit-swap (pos a) (negsuc b) = refl
-same_lit-swap (negsuc a) (pos b) = refl
-same_lit-swap (negsuc a) (negsuc b) = grind arith
-
 pub neg_ℤ-neg_ℤ : (l : ℤ) → neg_ℤ (neg_ℤ l) ≡ l
 neg_ℤ-neg_ℤ (pos zero) = refl
 neg_ℤ-neg_ℤ (pos (suc n)) = refl
 neg_ℤ-neg_ℤ (negsuc n) = refl
+
+pub nat_abs-neg_ℤ : (l : ℤ) → nat_abs (neg_ℤ l) ≡ nat_abs l
+nat_abs-neg_ℤ (pos zero) = refl
+nat_abs-neg_ℤ (pos (suc n)) = refl
+nat_abs-neg_ℤ (negsuc n) = refl
 
 pub has-head : (l : ℤ) (ls : List ℤ) → has (l ∷ ls) l ≡ true
 has-head l ls = or_left (same_lit l l) (has ls l) (same_lit-itself l)

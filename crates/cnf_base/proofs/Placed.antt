@@ -5,8 +5,8 @@ use Rattle.std.proofs.lemmas.List.{map-append}
 use Rattle.text_words.specs.Numbers.{integer_of}
 use Rattle.cnf_base.specs.declared.fault.DimacsKind.{DimacsKind}
 use Rattle.cnf_base.specs.Dimacs.{words_of, placed}
-use Rattle.cnf_base.specs.declared.fault.WordFault.{WordFault}
-use Rattle.cnf_base.specs.declared.fault.WordFault.TheVariants as faults
+use Rattle.text_words.specs.declared.fault.LineFault.{LineFault}
+use Rattle.text_words.specs.declared.fault.LineFault.TheVariants as faults
 use Rattle.cnf_base.specs.Reading.{◌>>=◌, Place, Progress, at_line, on_line, with_number, with_numbers, with_placed, Fails, FailsOnWord}
 
 abbrev pub Words : Type 0
@@ -59,7 +59,7 @@ words-placed n (line ∷ more) =
     ∙ ap (λ vs. words_of line ++ vs) (words-placed (n + 1) more)
 
 -- a line that stops the reading
-pub stops : {A : Type 0} (fault : WordFault) (n : ℕ) (line : List ℕ) (more : List (List ℕ)) (p : Progress) (all : Result Progress Place) (f : Progress → Result A Place)
+pub stops : {A : Type 0} (fault : LineFault DimacsKind) (n : ℕ) (line : List ℕ) (more : List (List ℕ)) (p : Progress) (all : Result Progress Place) (f : Progress → Result A Place)
     → FailsOnWord fault (with_numbers p (map integer_of (words_of line))) → with_placed p (placed n (line ∷ more)) ≡ all → Fails (on_line n fault) (all >>= f)
 stops (faults.Kind k) n line more p all f h e =
     ap (λ r. r >>= f) (sym e ∙ with_placed-err n (words_of line) (placed (n + 1) more) p k h)

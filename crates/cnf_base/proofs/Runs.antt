@@ -9,7 +9,7 @@ use Rattle.cnf_base.specs.Dimacs.{closed, IsLiteral, Spell}
 use Rattle.cnf_base.specs.Reading.{◌>>=◌, Place, Progress, at_line, ended, extended, with_number, with_numbers, with_placed}
 use Rattle.cnf_base.proofs.Numbers.{with_number-zero, with_number-literal}
 use Rattle.cnf_base.proofs.Placed.{Words, ok-ok}
-use Rattle.cnf_base.proofs.Spelling.{with_number-takes, spell-begun, spell-ended, err-err}
+use Rattle.cnf_base.proofs.SpelledWords.{with_number-takes, spell-begun, spell-ended, err-err}
 
 abbrev pub words_in : Words → List (List ℕ)
 words_in ws = map (λ (w : ℕ × List ℕ). w.1) ws

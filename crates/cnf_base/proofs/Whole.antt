@@ -13,9 +13,9 @@ use Rattle.cnf_base.specs.Dimacs.{words_of, last_line, placed, BeginsWith, IsHea
 use Rattle.cnf_base.specs.Reading.{◌>>=◌, Place, Found, Progress, at_line, header_of, found_at, with_number, with_numbers, with_placed, ended, formula_of, body_of, reading, Gives}
 use Rattle.cnf_base.proofs.Numbers.{with_number-large, with_number-zero}
 use Rattle.cnf_base.proofs.Placed.{Words, numbers_of, ok-ok, with_placed-ok, words-placed}
-use Rattle.cnf_base.proofs.Spelling.{err-err, with_number-refuses}
+use Rattle.cnf_base.proofs.SpelledWords.{err-err, with_number-refuses}
 use Rattle.cnf_base.proofs.Runs.{words_in, start, Reads, reads-none, reads-all, Stops, stops-at, spelled-runs}
-use Rattle.cnf_base.proofs.Heading.{Limited-few, Limited-large, header-cases, header_of-header, first-words, header_in-blank, header_in-begins}
+use Rattle.cnf_base.proofs.HeaderLine.{Limited-few, Limited-large, header-cases, header_of-header, first-words, header_in-blank, header_in-begins}
 
 -- ---- the header
 

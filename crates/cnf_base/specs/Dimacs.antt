@@ -169,7 +169,7 @@ IsFirstFault text line Truncated = EndsWithinClause text line
 
 -- ---- what a call answers
 
--- a fault that isn't want of memory is the first
+-- a fault is the first, unless memory ran out
 abbrev pub IsFault : List ℕ → DimacsFault → Type 0
 IsFault text (faults.At line kind) = IsFirstFault text line kind
 IsFault text faults.OutOfMemory = Unit {0}

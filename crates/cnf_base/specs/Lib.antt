@@ -1,6 +1,7 @@
 pub mod Dimacs
 pub mod Held
-pub mod Judged
+pub mod Literal
 pub mod Meaning
 pub mod Reading
+pub mod Status
 pub mod Text

@@ -9,8 +9,8 @@ use Rattle.cnf_base.specs.declared.fault.DimacsKind.{DimacsKind}
 use Rattle.cnf_base.specs.declared.fault.DimacsKind.TheVariants as kinds
 use Rattle.cnf_base.specs.declared.fault.DimacsFault.{DimacsFault}
 use Rattle.cnf_base.specs.declared.fault.DimacsFault.TheVariants as faults
-use Rattle.cnf_base.specs.declared.fault.WordFault.{WordFault}
-use Rattle.cnf_base.specs.declared.fault.WordFault.TheVariants as words
+use Rattle.text_words.specs.declared.fault.LineFault.{LineFault}
+use Rattle.text_words.specs.declared.fault.LineFault.TheVariants as words
 use Rattle.cnf_base.specs.declared.header.Counts.{Counts}
 use Rattle.cnf_base.specs.declared.header.Found as header
 
@@ -117,15 +117,15 @@ Gives view (Ok x) read = read ≡ Ok (view x)
 Gives view (Err e) read = Fails e read
 
 -- the same of a step that changes a draft, or of a line
-abbrev pub FailsOnWord : {A : Type 0} → WordFault → Result A DimacsKind → Type 0
+abbrev pub FailsOnWord : {A : Type 0} → LineFault DimacsKind → Result A DimacsKind → Type 0
 FailsOnWord (words.Kind kind) read = read ≡ Err kind
 FailsOnWord words.OutOfMemory read = Unit {0}
 
-abbrev pub Leaves : {A B : Type 0} → B → Result A WordFault → Result B DimacsKind → Type 0
+abbrev pub Leaves : {A B : Type 0} → B → Result A (LineFault DimacsKind) → Result B DimacsKind → Type 0
 Leaves new (Ok x) read = read ≡ Ok new
 Leaves new (Err e) read = FailsOnWord e read
 
-abbrev pub on_line : ℕ → WordFault → DimacsFault
+abbrev pub on_line : ℕ → LineFault DimacsKind → DimacsFault
 on_line n (words.Kind kind) = faults.At n kind
 on_line n words.OutOfMemory = faults.OutOfMemory
 

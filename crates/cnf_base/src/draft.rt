@@ -6,13 +6,13 @@ ghost use Rattle.cnf_base.specs.Dimacs.{words_of};
 ghost use Rattle.cnf_base.specs.Reading.{Leaves, with_number, with_numbers, formula_of, ended};
 
 use crate::clause::Clause;
-use crate::fault::{DimacsKind, WordFault};
+use crate::fault::DimacsKind;
 use crate::formula::Formula;
 use crate::lit::CnfLit;
 use ketch_base::OutOfMemory;
 use std::alloc::Global;
 use std::marker::Model;
-use text_words::{Separators, Words, integer};
+use text_words::{LineFault, Separators, Words, integer};
 
 /// A formula whose clauses come word by word.
 #[derive(Drop)]
@@ -55,7 +55,7 @@ impl Draft {
     }
 
     /// Takes the words of a line.
-    pub fn take_line(&mut self, line: &[u8]) -> Result<(), WordFault>
+    pub fn take_line(&mut self, line: &[u8]) -> Result<(), LineFault<DimacsKind>>
         ensures { Leaves self.new result (with_numbers self.old (map integer_of (words_of line.now))) }
     {
         for word in Words::of_content(line, Separators::Blanks) {
@@ -64,15 +64,15 @@ impl Draft {
         Ok(())
     }
 
-    fn take_word(&mut self, word: &[u8]) -> Result<(), WordFault>
+    fn take_word(&mut self, word: &[u8]) -> Result<(), LineFault<DimacsKind>>
         ensures { Leaves self.new result (with_number self.old (integer_of word.now)) }
     {
         let vars = u64::from(self.formula.vars());
         let Some(number) = integer(word) else {
-            return Err(WordFault::Kind(DimacsKind::Literal));
+            return Err(LineFault::Kind(DimacsKind::Literal));
         };
         if number.unsigned_abs() > vars {
-            return Err(WordFault::Kind(DimacsKind::Literal));
+            return Err(LineFault::Kind(DimacsKind::Literal));
         }
         if number == 0 {
             return self.end_clause();
@@ -81,11 +81,11 @@ impl Draft {
         Ok(())
     }
 
-    fn end_clause(&mut self) -> Result<(), WordFault>
+    fn end_clause(&mut self) -> Result<(), LineFault<DimacsKind>>
         ensures { Leaves self.new result (ended self.old) }
     {
         if self.formula.clauses().len() >= self.limit as usize {
-            return Err(WordFault::Kind(DimacsKind::Count));
+            return Err(LineFault::Kind(DimacsKind::Count));
         }
         let clause = Clause::from_slice(self.alloc, self.begun.as_slice())?;
         self.formula.add(clause)?;

@@ -4,7 +4,7 @@ ghost use Rattle.std.specs.Prelude.{◌≡◌};
 ghost use Rattle.cnf_base.specs.Reading.{on_line};
 
 use ketch_base::OutOfMemory;
-use std::alloc::AllocFailed;
+use text_words::LineFault;
 use thiserror::Error;
 
 #[derive(Clone, Copy, Debug, PartialEq, Eq)]
@@ -41,42 +41,12 @@ impl From<OutOfMemory> for DimacsFault {
     }
 }
 
-/// What stopped the reading of a line.
-#[derive(Clone, Copy, Debug, PartialEq, Eq)]
-pub enum WordFault {
-    Kind(DimacsKind),
-    OutOfMemory,
-}
-
-impl From<OutOfMemory> for WordFault {
-    ghost use Rattle.std.specs.Prelude.{◌≡◌};
-    ghost use Rattle.cnf_base.specs.declared.fault.WordFault.TheVariants.{OutOfMemory};
-
-    ghost from_gives = { λ _ e. e ≡ OutOfMemory };
-
-    fn from(_error: OutOfMemory) -> WordFault {
-        WordFault::OutOfMemory
-    }
-}
-
-impl<T: Drop> From<AllocFailed<T>> for WordFault {
-    ghost use Rattle.std.specs.Prelude.{◌≡◌};
-    ghost use Rattle.cnf_base.specs.declared.fault.WordFault.TheVariants.{OutOfMemory};
-
-    ghost from_gives = { λ _ e. e ≡ OutOfMemory };
-
-    fn from(_error: AllocFailed<T>) -> WordFault {
-        WordFault::OutOfMemory
-    }
-}
-
-impl WordFault {
-    pub fn on_line(self, line: u32) -> DimacsFault
-        ensures { result ≡ on_line line self }
-    {
-        match self {
-            WordFault::Kind(kind) => DimacsFault::At { line, kind },
-            WordFault::OutOfMemory => DimacsFault::OutOfMemory,
-        }
+/// The fault of a line in the text that it stands in.
+pub fn on_line(fault: LineFault<DimacsKind>, line: u32) -> DimacsFault
+    ensures { result ≡ on_line line fault }
+{
+    match fault {
+        LineFault::Kind(kind) => DimacsFault::At { line, kind },
+        LineFault::OutOfMemory => DimacsFault::OutOfMemory,
     }
 }

@@ -1,6 +1,7 @@
 //! Literals.
 
-ghost use Rattle.std.specs.Prelude.{◌≡◌, ◌≢◌, ◌↔◌, pos, ◌<ℤ◌, unsigned_abs, IsTrue};
+ghost use Rattle.std.specs.Prelude.{◌≡◌, ◌≢◌, ◌↔◌, ◌+◌, ◌*◌, ◌^◌, ◌<◌, ◌≤◌, pos, ◌<ℤ◌, nat_abs, neg_ℤ, unsigned_abs, IsTrue};
+ghost use Rattle.cnf_base.specs.Literal.{lit_index};
 
 use std::marker::Model;
 
@@ -49,5 +50,23 @@ impl CnfLit {
         ensures { IsTrue result ↔ (pos 0 <ℤ self) }
     {
         self.value > 0
+    }
+
+    /// The least i32 alone has no negation.
+    #[inline]
+    pub fn negation(self) -> CnfLit
+        requires { nat_abs self < 2 ^ 31 }
+        ensures { result ≡ neg_ℤ self }
+    {
+        CnfLit { value: -self.value }
+    }
+
+    /// The literal's place in a list that has two places for each variable from 0 on.
+    #[inline]
+    pub fn index(self) -> usize
+        ensures place { result ≡ lit_index self }
+        ensures one_of_two { (2 * nat_abs self ≤ result) × (result ≤ 2 * nat_abs self + 1) }
+    {
+        2 * self.var() as usize + usize::from(!self.is_positive())
     }
 }

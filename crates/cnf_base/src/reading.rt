@@ -8,7 +8,7 @@ ghost use Rattle.cnf_base.specs.Reading.{Gives, found_of, body_of, reading};
 ghost use Rattle.cnf_base.specs.declared.fault.DimacsKind.{DimacsKind};
 
 use crate::draft::Draft;
-use crate::fault::DimacsFault;
+use crate::fault::{DimacsFault, on_line};
 use crate::formula::Formula;
 use crate::header::{Found, find_header};
 use std::alloc::Global;
@@ -48,7 +48,7 @@ fn read_body(alloc: Global, found: Found<'_>) -> Result<Formula, DimacsFault>
     for line in body {
         number += 1;
         if let Err(fault) = draft.take_line(line) {
-            return Err(fault.on_line(number));
+            return Err(on_line(fault, number));
         }
     }
     match draft.finish() {

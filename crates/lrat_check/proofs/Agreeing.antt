@@ -1,9 +1,9 @@
 -- A proof is accepted exactly where it has no first fault.
 use Rattle.std.proofs.Common.{◌≡◌, ◌↔◌, ℕ, ◌+◌, true, cond, ltb, ℤ, pos, negsuc, neg_ℤ, List, [], ◌∷◌, ◌++◌, map, Option, Some, None, is_some, refl, ap, ◌∙◌, inl, inr, ◌⊎◌}
 use Rattle.std.proofs.lemmas.Bool.{cases_Bool, ltb-true, lt-ltb, cond-true}
-use Rattle.cnf_base.specs.declared.judged.Judged.{Judged}
-use Rattle.cnf_base.specs.declared.judged.Judged.TheVariants.{Passed, Ended, Forces, Open}
-use Rattle.cnf_base.specs.Judged.{IsPassedIn, IsRefutedIn, IsUnitIn, has, judge, is_tautology}
+use Rattle.cnf_base.specs.declared.clause_status.ClauseStatus.{ClauseStatus}
+use Rattle.cnf_base.specs.declared.clause_status.ClauseStatus.TheVariants.{Satisfied, Falsified, Unit, Unresolved}
+use Rattle.cnf_base.specs.Status.{IsSatisfiedIn, IsFalsifiedIn, IsUnitIn, has, clause_status, is_tautology}
 use Rattle.cnf_base.specs.Meaning.{CnfFormula}
 use Rattle.lrat_text.specs.declared.proof.LratStep.{LratStep}
 use Rattle.lrat_text.specs.declared.proof.LratStep.TheVariants.{Add, Delete}
@@ -11,26 +11,26 @@ use Rattle.lrat_check.specs.declared.fault.ProofKind.{ProofKind}
 use Rattle.lrat_check.specs.declared.fault.ProofKind.TheVariants.{UnknownId}
 use Rattle.lrat_text.specs.Standing.{Standing, start, clause_at, without, after}
 use Rattle.lrat_text.specs.Accepted.{Ends, MayAdd, MayDelete, MayStep, AddsEmpty, AcceptedFrom, Accepted}
-use Rattle.lrat_check.specs.FirstFault.{judged_fault, named_fault, hint_fault, add_fault, delete_fault, step_fault, is_empty, adds_empty, fault_at, fault_from, first_fault}
+use Rattle.lrat_check.specs.FirstFault.{status_fault, named_fault, hint_fault, add_fault, delete_fault, step_fault, is_empty, adds_empty, fault_at, fault_from, first_fault}
 use Rattle.cnf_base.proofs.Literals.{list_any-found, list_any-at}
-use Rattle.cnf_base.proofs.Judging.{passed_says, passed_from, ended_says, ended_from, forces_says, forces_from}
+use Rattle.cnf_base.proofs.Status.{satisfied_says, satisfied_from, falsified_says, falsified_from, unit_says, unit_from}
 
 -- how a hint goes on whose clause is this
 abbrev GoesOn : List (ℕ × List ℤ) → List ℤ → List ℤ → List ℤ → Type 0
 GoesOn live assumed hints c =
-    (IsPassedIn assumed c × Ends live assumed hints)
-    ⊎ (IsRefutedIn assumed c
+    (IsSatisfiedIn assumed c × Ends live assumed hints)
+    ⊎ (IsFalsifiedIn assumed c
     ⊎ ((l : ℤ) × IsUnitIn assumed c l × Ends live (assumed ++ l ∷ []) hints))
 
-judged_ends : (live : List (ℕ × List ℤ)) (assumed hints c : List ℤ) (id : ℕ) (j : Judged) → judge assumed c ≡ j → ((a : List ℤ) → hint_fault live a hints ≡ None → Ends live a hints) → judged_fault id j (hint_fault live assumed hints) (λ l. hint_fault live (assumed ++ l ∷ []) hints) ≡ None → GoesOn live assumed hints c
-judged_ends live assumed hints c id Passed e more h = inl (passed_says assumed c e, more assumed h)
-judged_ends live assumed hints c id Ended e more h = inr (inl (ended_says assumed c e))
-judged_ends live assumed hints c id (Forces l) e more h = inr (inr (l, forces_says assumed c l e, more (assumed ++ l ∷ []) h))
-judged_ends live assumed hints c id Open e more h = cc
+status_ends : (live : List (ℕ × List ℤ)) (assumed hints c : List ℤ) (id : ℕ) (j : ClauseStatus) → clause_status assumed c ≡ j → ((a : List ℤ) → hint_fault live a hints ≡ None → Ends live a hints) → status_fault id j (hint_fault live assumed hints) (λ l. hint_fault live (assumed ++ l ∷ []) hints) ≡ None → GoesOn live assumed hints c
+status_ends live assumed hints c id Satisfied e more h = inl (satisfied_says assumed c e, more assumed h)
+status_ends live assumed hints c id Falsified e more h = inr (inl (falsified_says assumed c e))
+status_ends live assumed hints c id (Unit l) e more h = inr (inr (l, unit_says assumed c l e, more (assumed ++ l ∷ []) h))
+status_ends live assumed hints c id Unresolved e more h = cc
 
 named_ends : (live : List (ℕ × List ℤ)) (assumed hints : List ℤ) (id : ℕ) (o : Option (List ℤ)) → clause_at live id ≡ o → ((a : List ℤ) → hint_fault live a hints ≡ None → Ends live a hints) → named_fault id assumed o (hint_fault live assumed hints) (λ l. hint_fault live (assumed ++ l ∷ []) hints) ≡ None → Ends live assumed (pos id ∷ hints)
 named_ends live assumed hints id None e more h = cc
-named_ends live assumed hints id (Some c) e more h = (c, e, judged_ends live assumed hints c id (judge assumed c) refl more h)
+named_ends live assumed hints id (Some c) e more h = (c, e, status_ends live assumed hints c id (clause_status assumed c) refl more h)
 
 ends_without_fault : (live : List (ℕ × List ℤ)) (hints assumed : List ℤ) → hint_fault live assumed hints ≡ None → Ends live assumed hints
 ends_without_fault live [] assumed h = cc
@@ -41,10 +41,10 @@ no_hint_fault : (live : List (ℕ × List ℤ)) (hints assumed : List ℤ) → E
 no_hint_fault live [] assumed h = absurd h
 no_hint_fault live (pos id ∷ hints) assumed h =
     rw h.1 (elim h.2 [
-      | inl passed ↦ rw (passed_from assumed h.0 passed.0) (no_hint_fault live hints assumed passed.1)
+      | inl satisfied ↦ rw (satisfied_from assumed h.0 satisfied.0) (no_hint_fault live hints assumed satisfied.1)
       | inr rest ↦ elim rest [
-        | inl refuted ↦ rw (ended_from assumed h.0 refuted) refl
-        | inr unit ↦ rw (forces_from assumed h.0 unit.0 unit.1) (no_hint_fault live hints (assumed ++ unit.0 ∷ []) unit.2)
+        | inl falsified ↦ rw (falsified_from assumed h.0 falsified) refl
+        | inr unit ↦ rw (unit_from assumed h.0 unit.0 unit.1) (no_hint_fault live hints (assumed ++ unit.0 ∷ []) unit.2)
       ]
     ])
 no_hint_fault live (negsuc n ∷ hints) assumed h = absurd h

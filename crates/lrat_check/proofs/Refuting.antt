@@ -2,7 +2,7 @@
 use Rattle.std.proofs.Common.{◌≡◌, ℕ, zero, suc, ◌+◌, Bool, true, false, eqb, ℤ, pos, negsuc, neg_ℤ, List, [], ◌∷◌, ◌++◌, map, Some, refl, sym, subst, arith, inl, inr}
 use Rattle.std.proofs.lemmas.Bool.{or_cases, cases_Bool, or_left, or_right, or_parts}
 use Rattle.std.specs.List.{enumerate_from}
-use Rattle.cnf_base.specs.Judged.{IsFalseIn, IsRefutedIn, IsUnitIn, same_lit, has}
+use Rattle.cnf_base.specs.Status.{IsFalseIn, IsFalsifiedIn, IsUnitIn, same_lit, has}
 use Rattle.cnf_base.specs.Meaning.{CnfFormula, lit_true, clause_true, Satisfies, HasNoModel}
 use Rattle.lrat_text.specs.declared.proof.LratStep.{LratStep}
 use Rattle.lrat_text.specs.declared.proof.LratStep.TheVariants.{Add, Delete}
@@ -71,7 +71,7 @@ not_true v assumed l t h k =
     cc
 
 -- a refuted clause is not true
-refuted_is_false : (v : ℕ → Bool) (assumed c : List ℤ) → AreTrue v assumed → IsRefutedIn assumed c → clause_true v c ≡ true → ⊥
+refuted_is_false : (v : ℕ → Bool) (assumed c : List ℤ) → AreTrue v assumed → IsFalsifiedIn assumed c → clause_true v c ≡ true → ⊥
 refuted_is_false v assumed c t h k =
     let found = true_literal v c k in not_true v assumed found.0 t (h found.0 found.1) found.2
 

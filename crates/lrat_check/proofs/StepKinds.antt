@@ -1,23 +1,23 @@
 -- A single step never lacks the empty clause.
 use Rattle.std.proofs.Common.{◌≡◌, ℕ, ltb, ℤ, pos, negsuc, neg_ℤ, List, [], ◌∷◌, ◌++◌, map, Option, Some, None, is_some, inl, inr}
 use Rattle.std.proofs.lemmas.Bool.{cases_Bool}
-use Rattle.cnf_base.specs.declared.judged.Judged.{Judged}
-use Rattle.cnf_base.specs.declared.judged.Judged.TheVariants.{Passed, Ended, Forces, Open}
-use Rattle.cnf_base.specs.Judged.{judge, is_tautology}
+use Rattle.cnf_base.specs.declared.clause_status.ClauseStatus.{ClauseStatus}
+use Rattle.cnf_base.specs.declared.clause_status.ClauseStatus.TheVariants.{Satisfied, Falsified, Unit, Unresolved}
+use Rattle.cnf_base.specs.Status.{clause_status, is_tautology}
 use Rattle.lrat_check.specs.declared.fault.ProofKind.{ProofKind}
 use Rattle.lrat_check.specs.declared.fault.ProofKind.TheVariants.{NoEmpty}
 use Rattle.lrat_text.specs.Standing.{Standing, clause_at, without}
-use Rattle.lrat_check.specs.FirstFault.{judged_fault, named_fault, hint_fault, add_fault, delete_fault}
+use Rattle.lrat_check.specs.FirstFault.{status_fault, named_fault, hint_fault, add_fault, delete_fault}
 
-judged_kind : (id : ℕ) (j : Judged) (passed : Option ProofKind) (forced : ℤ → Option ProofKind) → (passed ≡ Some NoEmpty → ⊥) → ((l : ℤ) → forced l ≡ Some NoEmpty → ⊥) → judged_fault id j passed forced ≡ Some NoEmpty → ⊥
-judged_kind id Passed passed forced p f h = p h
-judged_kind id Ended passed forced p f h = cc
-judged_kind id (Forces l) passed forced p f h = f l h
-judged_kind id Open passed forced p f h = cc
+status_kind : (id : ℕ) (j : ClauseStatus) (satisfied : Option ProofKind) (unit : ℤ → Option ProofKind) → (satisfied ≡ Some NoEmpty → ⊥) → ((l : ℤ) → unit l ≡ Some NoEmpty → ⊥) → status_fault id j satisfied unit ≡ Some NoEmpty → ⊥
+status_kind id Satisfied satisfied unit p f h = p h
+status_kind id Falsified satisfied unit p f h = cc
+status_kind id (Unit l) satisfied unit p f h = f l h
+status_kind id Unresolved satisfied unit p f h = cc
 
-named_kind : (id : ℕ) (assumed : List ℤ) (o : Option (List ℤ)) (passed : Option ProofKind) (forced : ℤ → Option ProofKind) → (passed ≡ Some NoEmpty → ⊥) → ((l : ℤ) → forced l ≡ Some NoEmpty → ⊥) → named_fault id assumed o passed forced ≡ Some NoEmpty → ⊥
-named_kind id assumed None passed forced p f h = cc
-named_kind id assumed (Some clause) passed forced p f h = judged_kind id (judge assumed clause) passed forced p f h
+named_kind : (id : ℕ) (assumed : List ℤ) (o : Option (List ℤ)) (satisfied : Option ProofKind) (unit : ℤ → Option ProofKind) → (satisfied ≡ Some NoEmpty → ⊥) → ((l : ℤ) → unit l ≡ Some NoEmpty → ⊥) → named_fault id assumed o satisfied unit ≡ Some NoEmpty → ⊥
+named_kind id assumed None satisfied unit p f h = cc
+named_kind id assumed (Some clause) satisfied unit p f h = status_kind id (clause_status assumed clause) satisfied unit p f h
 
 hint_kind : (live : List (ℕ × List ℤ)) (hints assumed : List ℤ) → hint_fault live assumed hints ≡ Some NoEmpty → ⊥
 hint_kind live [] assumed h = cc

@@ -1,4 +1,4 @@
--- Which fault a call answers: want of memory, or the first that its input has.
+-- Which fault a call answers: out of memory, or the first that its input has.
 use Rattle.std.specs.Prelude.{◌≡◌, ℕ, Option, Some}
 use Rattle.lrat_check.specs.declared.fault.ProofKind.{ProofKind}
 use Rattle.lrat_check.specs.declared.fault.AddFault.{AddFault}

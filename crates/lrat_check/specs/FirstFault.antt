@@ -1,8 +1,8 @@
 -- The first fault of a proof, with its step.
 use Rattle.std.specs.Prelude.{ℕ, ◌+◌, Bool, true, false, cond, ltb, ℤ, pos, negsuc, neg_ℤ, List, [], ◌∷◌, ◌++◌, map, Option, Some, None, is_some}
-use Rattle.cnf_base.specs.declared.judged.Judged.{Judged}
-use Rattle.cnf_base.specs.declared.judged.Judged.TheVariants.{Passed, Ended, Forces, Open}
-use Rattle.cnf_base.specs.Judged.{judge, is_tautology}
+use Rattle.cnf_base.specs.declared.clause_status.ClauseStatus.{ClauseStatus}
+use Rattle.cnf_base.specs.declared.clause_status.ClauseStatus.TheVariants.{Satisfied, Falsified, Unit, Unresolved}
+use Rattle.cnf_base.specs.Status.{clause_status, is_tautology}
 use Rattle.cnf_base.specs.Meaning.{CnfFormula}
 use Rattle.lrat_text.specs.declared.proof.LratStep.{LratStep}
 use Rattle.lrat_text.specs.declared.proof.LratStep.TheVariants.{Add, Delete}
@@ -10,18 +10,18 @@ use Rattle.lrat_check.specs.declared.fault.ProofKind.{ProofKind}
 use Rattle.lrat_check.specs.declared.fault.ProofKind.TheVariants.{OldId, UnknownId, NotUnit, NoConflict, NegativeHint, NoEmpty}
 use Rattle.lrat_text.specs.Standing.{Standing, start, clause_at, without, after}
 
--- by the judgement of the clause that a hint names; what the later hints have is given for a clause that is passed
+-- by the judgement of the clause that a hint names; what the later hints have is given for a clause that is satisfied
 -- over and for one that forces a literal
-abbrev pub judged_fault : ℕ → Judged → Option ProofKind → (ℤ → Option ProofKind) → Option ProofKind
-judged_fault id Passed passed forced = passed
-judged_fault id Ended passed forced = None
-judged_fault id (Forces l) passed forced = forced l
-judged_fault id Open passed forced = Some (NotUnit id)
+abbrev pub status_fault : ℕ → ClauseStatus → Option ProofKind → (ℤ → Option ProofKind) → Option ProofKind
+status_fault id Satisfied satisfied unit = satisfied
+status_fault id Falsified satisfied unit = None
+status_fault id (Unit l) satisfied unit = unit l
+status_fault id Unresolved satisfied unit = Some (NotUnit id)
 
 -- the same, by the clause that lives under the hint
 abbrev pub named_fault : ℕ → List ℤ → Option (List ℤ) → Option ProofKind → (ℤ → Option ProofKind) → Option ProofKind
-named_fault id assumed None passed forced = Some (UnknownId id)
-named_fault id assumed (Some clause) passed forced = judged_fault id (judge assumed clause) passed forced
+named_fault id assumed None satisfied unit = Some (UnknownId id)
+named_fault id assumed (Some clause) satisfied unit = status_fault id (clause_status assumed clause) satisfied unit
 
 -- the first fault of hints that do not end at a false clause
 abbrev pub hint_fault : List (ℕ × List ℤ) → List ℤ → List ℤ → Option ProofKind

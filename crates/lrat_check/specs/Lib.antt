@@ -1,7 +1,7 @@
 pub mod Answers
-pub mod Assuming
+pub mod Assumptions
+pub mod ClauseKeys
 pub mod FirstFault
-pub mod Keying
+pub mod HintIds
 pub mod SpentFault
-pub mod Storing
-pub mod Walking
+pub mod StoredClauses

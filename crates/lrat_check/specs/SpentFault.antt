@@ -1,7 +1,7 @@
 -- The first fault of a proof that is to spend a number of lemmas.
 use Rattle.std.specs.Prelude.{◌≡◌, ℕ, ◌+◌, Bool, false, cond, not, ◌&&◌, ◌||◌, eqb, ℤ, List, [], ◌∷◌, ◌++◌, length, Option, Some, None}
 use Rattle.std.specs.List.{list_any, list_all}
-use Rattle.cnf_base.specs.Judged.{has, is_tautology}
+use Rattle.cnf_base.specs.Status.{has, is_tautology}
 use Rattle.cnf_base.specs.Meaning.{CnfFormula}
 use Rattle.lrat_text.specs.declared.proof.LratStep.{LratStep}
 use Rattle.lrat_text.specs.declared.proof.LratStep.TheVariants.{Add, Delete}

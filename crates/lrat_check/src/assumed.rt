@@ -1,8 +1,8 @@
 //! The literals that a step assumes.
 
 ghost use Rattle.std.specs.Prelude.{◌≡◌, ◌≢◌, pos, [], ◌∷◌, ◌++◌, neg_ℤ, unsigned_abs, IsFalse, IfOk, OnOk, OnErr};
-ghost use Rattle.cnf_base.specs.Judged.{has};
-ghost use Rattle.lrat_check.specs.Assuming.{truth_in, flipped, sign_at, AreSignsOf};
+ghost use Rattle.cnf_base.specs.Status.{has};
+ghost use Rattle.lrat_check.specs.Assumptions.{truth_in, flipped, sign_at, AreSignsOf};
 
 use crate::signs::Signs;
 use cnf_base::CnfLit;
@@ -27,7 +27,7 @@ pub struct Assumption {
 
 impl Model for Assumption {
     ghost use Rattle.std.specs.Prelude.{ℤ};
-    ghost use Rattle.lrat_check.specs.Assuming.{flipped};
+    ghost use Rattle.lrat_check.specs.Assumptions.{flipped};
 
     ghost Value = { ℤ };
 
@@ -57,7 +57,7 @@ pub struct Assumed {
 
 impl Model for Assumed {
     ghost use Rattle.std.specs.Prelude.{ℤ, List};
-    ghost use Rattle.lrat_check.specs.Assuming.{sign_at, AreSignsOf};
+    ghost use Rattle.lrat_check.specs.Assumptions.{sign_at, AreSignsOf};
 
     ghost Value = { List ℤ };
 

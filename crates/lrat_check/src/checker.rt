@@ -1,7 +1,7 @@
 //! The checker: it is given the steps of a proof one at a time.
 
 ghost use Rattle.std.specs.Prelude.{◌≡◌, ◌≢◌, ◌+◌, ◌<◌, ◌↔◌, [], None, IsOk, IfOk, IfErr, OnOk, OnErr, IsOkUnless, MatchResult};
-ghost use Rattle.cnf_base.specs.Judged.{is_tautology};
+ghost use Rattle.cnf_base.specs.Status.{is_tautology};
 ghost use Rattle.lrat_text.specs.Accepted.{MayAdd, MayDelete};
 ghost use Rattle.lrat_check.specs.Answers.{IsStepFault, IsDeleteFault};
 ghost use Rattle.lrat_check.specs.FirstFault.{add_fault, delete_fault, step_fault};

@@ -1,7 +1,7 @@
 //! Keys by which clauses with the same literals are found.
 
 ghost use Rattle.std.specs.Prelude.{IfOk, OnOk, All};
-ghost use Rattle.lrat_check.specs.Keying.{IsKeyOf, HoldsStep, AreTaken};
+ghost use Rattle.lrat_check.specs.ClauseKeys.{IsKeyOf, HoldsStep, AreTaken};
 
 use cnf_base::{Clause, CnfLit};
 use ketch_base::OutOfMemory;

@@ -17,6 +17,3 @@ pub use fault::{AddFault, ProofFault, ProofKind, SpentFault};
 pub use laws::{accepted_refutes, accepted_without_fault, earned_are_few, spent_without_fault};
 pub use proof::check_proof;
 pub use spent::check_spent;
-
-#[cfg(test)]
-mod tests;

@@ -1,7 +1,7 @@
 //! The sign in which each variable is assumed.
 
 ghost use Rattle.std.specs.Prelude.{◌≡◌, ℕ, nat_eq, if◌then◌else◌, Some, None, IfOk, OnOk, OnErr};
-ghost use Rattle.lrat_check.specs.Assuming.{sign_at};
+ghost use Rattle.lrat_check.specs.Assumptions.{sign_at};
 
 use ketch_base::OutOfMemory;
 use std::alloc::Global;

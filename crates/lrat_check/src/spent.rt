@@ -1,7 +1,7 @@
 //! Proofs that spend a number of lemmas without an end.
 
 ghost use Rattle.std.specs.Prelude.{◌≡◌, None, IfOk, OnOk, IsOkUnless, MatchResult};
-ghost use Rattle.lrat_check.specs.Keying.{TakesStep};
+ghost use Rattle.lrat_check.specs.ClauseKeys.{TakesStep};
 ghost use Rattle.lrat_text.specs.Spent.{SpentOn};
 ghost use Rattle.lrat_check.specs.SpentFault.{spent_fault, spent_from, IsSpentFault};
 ghost use Rattle.lrat_text.specs.Standing.{start};

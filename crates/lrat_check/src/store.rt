@@ -3,7 +3,7 @@
 ghost use Rattle.std.specs.Prelude.{◌≡◌, ◌≢◌, ◌<◌, None, Some, [], ◌∷◌, ◌++◌, ◌+◌, OnOk, OnErr, IfErr, IfSome, IfNone, length, map, All, get_or, true, false};
 ghost use Rattle.lrat_check.specs.FirstFault.{delete_fault};
 ghost use Rattle.lrat_text.specs.Standing.{clause_at, with_clause, with_deleted};
-ghost use Rattle.lrat_check.specs.Storing.{IsRising, IsInside, live_of, is_alive, killed, killed_all, first_dead, revived, revived_by};
+ghost use Rattle.lrat_check.specs.StoredClauses.{IsRising, IsInside, live_of, is_alive, killed, killed_all, first_dead, revived, revived_by};
 
 use crate::fault::ProofKind;
 use cnf_base::CnfLit;
@@ -30,7 +30,7 @@ pub struct Store {
 
 impl Model for Store {
     ghost use Rattle.lrat_text.specs.Standing.{Standing};
-    ghost use Rattle.lrat_check.specs.Storing.{live_of, IsStore};
+    ghost use Rattle.lrat_check.specs.StoredClauses.{live_of, IsStore};
 
     ghost Value = { Standing };
 

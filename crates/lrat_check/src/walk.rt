@@ -1,40 +1,29 @@
 //! The judgement of an addition: its negated literals are assumed, and its hints walked.
 
 ghost use Rattle.std.specs.Prelude.{◌≡◌, [], neg_ℤ, map, false, IfOk};
-ghost use Rattle.cnf_base.specs.Judged.{judge, is_tautology};
+ghost use Rattle.cnf_base.specs.Status.{clause_status, is_tautology};
 ghost use Rattle.lrat_check.specs.FirstFault.{lemma_fault, hint_fault};
-ghost use Rattle.lrat_check.specs.Walking.{widened, named_id};
+ghost use Rattle.lrat_check.specs.HintIds.{named_id};
 
 use crate::assumed::{Assumed, Truth};
 use crate::fault::ProofKind;
 use crate::store::Store;
-use cnf_base::{CnfLit, Judged};
+use cnf_base::{ClauseStatus, CnfLit};
 use ketch_base::OutOfMemory;
 
 /// A clause under the assumed literals.
-fn judge(assumed: &Assumed, clause: &[CnfLit]) -> Judged
-    ensures { result ≡ judge assumed.now clause.now }
+fn clause_status(assumed: &Assumed, clause: &[CnfLit]) -> ClauseStatus
+    ensures { result ≡ clause_status assumed.now clause.now }
 {
-    let mut so_far = Judged::Ended;
+    let mut so_far = ClauseStatus::Falsified;
     for lit in clause {
         match assumed.truth(*lit) {
-            Truth::True => return Judged::Passed,
+            Truth::True => return ClauseStatus::Satisfied,
             Truth::False => {}
-            Truth::Open => so_far = widened(so_far, *lit),
+            Truth::Open => so_far = so_far.with_open_literal(*lit),
         }
     }
     so_far
-}
-
-/// One more open literal: the same one again changes nothing.
-fn widened(so_far: Judged, lit: CnfLit) -> Judged
-    ensures { result ≡ widened so_far lit }
-{
-    match so_far {
-        Judged::Ended => Judged::Forces(lit),
-        Judged::Forces(first) => { if first == lit { so_far } else { Judged::Open } }
-        other => other,
-    }
 }
 
 /// Walks the hints from the assumed literals on: the first fault, if they don't end at a false clause.
@@ -52,11 +41,11 @@ fn walk_hints(
         let Some(clause) = store.clause(id) else {
             return Ok(Some(ProofKind::UnknownId { id }));
         };
-        match judge(assumed, clause) {
-            Judged::Passed => {}
-            Judged::Ended => return Ok(None),
-            Judged::Forces(lit) => assumed.assume(lit, false)?,
-            Judged::Open => return Ok(Some(ProofKind::NotUnit { hint: id })),
+        match clause_status(assumed, clause) {
+            ClauseStatus::Satisfied => {}
+            ClauseStatus::Falsified => return Ok(None),
+            ClauseStatus::Unit(lit) => assumed.assume(lit, false)?,
+            ClauseStatus::Unresolved => return Ok(Some(ProofKind::NotUnit { hint: id })),
         }
     }
     Ok(Some(ProofKind::NoConflict))

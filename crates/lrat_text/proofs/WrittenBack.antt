@@ -9,7 +9,7 @@ use Rattle.text_words.proofs.Written.{IsInLine, IsGraphic, each-append, each-wea
 use Rattle.lrat_text.specs.declared.proof.LratStep.{LratStep}
 use Rattle.lrat_text.specs.declared.proof.LratStep.TheVariants.{Add, Delete}
 use Rattle.lrat_text.specs.Lrat.{words_of, has_words, Are, numbers, IsId, IsLiteral, IsHint, SpellsStep, SpellsProof}
-use Rattle.lrat_text.specs.Text.{number_text, id_text, step_text, proof_text, HasIdsAndHints, HasLiterals}
+use Rattle.lrat_text.specs.Text.{number_text, id_text, step_text, proof_text, HasIdsAndHints, HasLiterals, IsWritable, HasProofLiterals}
 use Rattle.lrat_text.proofs.Lists.{are-append, are-cons}
 use Rattle.lrat_text.proofs.Items.{fits-small}
 
@@ -208,11 +208,32 @@ steps-spelled (s ∷ ss) fits =
     let Q : Bool → Type 0 = λ b. AllZip SpellsStep (cond b (step_words s ∷ rest) rest) (s ∷ ss) in
     subst P (sym (step-content s fits.0)) (subst Q (sym (some-words s)) (step-spelled s fits.0, steps-spelled ss fits.1))
 
-fit : (proof : List LratStep) → AllByRecursion HasIdsAndHints proof → AllByRecursion HasLiterals proof → AllByRecursion Fits proof
+fit : (proof : List LratStep) → IsWritable proof → HasProofLiterals proof → AllByRecursion Fits proof
 fit [] ids lits = tt
 fit (s ∷ ss) ids lits = ((ids.0, lits.0), fit ss ids.1 lits.1)
 
-pub proof_text-spells : (proof : List LratStep) → AllByRecursion HasIdsAndHints proof → AllByRecursion HasLiterals proof → SpellsProof (proof_text proof) proof
+pub proof_text-spells : (proof : List LratStep) → IsWritable proof → HasProofLiterals proof → SpellsProof (proof_text proof) proof
 proof_text-spells proof ids lits =
     let fits = fit proof ids lits in
     subst (λ (ls : List (List ℕ)). AllZip SpellsStep (filter has_words (map words_of ls)) proof) (sym (lines-proof proof fits)) (steps-spelled proof fits)
+
+-- ---- and what a text spells can be written
+
+step-fits : (words : List (List ℕ)) (step : LratStep) → SpellsStep words step → Fits step
+step-fits words (Add id lits hints) h = ((h.4.of_id, h.4.of_hints), h.4.of_lits)
+step-fits words (Delete n ids) h = ((h.4.of_number, h.4.of_ids), tt)
+
+steps-fit : (lines : List (List (List ℕ))) (proof : List LratStep) → AllZip SpellsStep lines proof → AllByRecursion Fits proof
+steps-fit [] [] h = tt
+steps-fit [] (s ∷ ss) h = absurd h
+steps-fit (ws ∷ lines) [] h = tt
+steps-fit (ws ∷ lines) (s ∷ ss) h = (step-fits ws s h.0, steps-fit lines ss h.1)
+
+unfit : (proof : List LratStep) → AllByRecursion Fits proof → IsWritable proof × HasProofLiterals proof
+unfit [] fits = (tt, tt)
+unfit (s ∷ ss) fits =
+    let more = unfit ss fits.1 in
+    ((fits.0.0, more.0), (fits.0.1, more.1))
+
+pub spelled-writable : (text : List ℕ) (proof : List LratStep) → SpellsProof text proof → IsWritable proof × HasProofLiterals proof
+spelled-writable text proof h = unfit proof (steps-fit (filter has_words (map words_of (lines text))) proof h)

@@ -1,6 +1,6 @@
 -- When a proof is accepted: the rule of LRAT without its RAT steps.
 use Rattle.std.specs.Prelude.{◌≡◌, ℕ, ◌<◌, IsTrue, ℤ, pos, negsuc, neg_ℤ, List, [], ◌∷◌, ◌++◌, map, Some, IsSome, ◌⊎◌}
-use Rattle.cnf_base.specs.Judged.{has, IsPassedIn, IsRefutedIn, IsUnitIn}
+use Rattle.cnf_base.specs.Status.{has, IsSatisfiedIn, IsFalsifiedIn, IsUnitIn}
 use Rattle.cnf_base.specs.Meaning.{CnfFormula}
 use Rattle.lrat_text.specs.declared.proof.LratStep.{LratStep}
 use Rattle.lrat_text.specs.declared.proof.LratStep.TheVariants.{Add, Delete}
@@ -12,8 +12,8 @@ abbrev pub Ends : List (ℕ × List ℤ) → List ℤ → List ℤ → Type 0
 Ends live assumed [] = ⊥
 Ends live assumed (pos id ∷ hints) =
     (clause : List ℤ) × (clause_at live id ≡ Some clause)
-    × ((IsPassedIn assumed clause × Ends live assumed hints)
-    ⊎ (IsRefutedIn assumed clause
+    × ((IsSatisfiedIn assumed clause × Ends live assumed hints)
+    ⊎ (IsFalsifiedIn assumed clause
     ⊎ ((l : ℤ) × IsUnitIn assumed clause l × Ends live (assumed ++ l ∷ []) hints)))
 Ends live assumed (negsuc n ∷ hints) = ⊥
 

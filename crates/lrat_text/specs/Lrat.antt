@@ -145,7 +145,7 @@ pub record IsFirstFault (text : List ℕ) (line : ℕ) (kind : LratKind) : Type 
 
 -- ---- what a call answers
 
--- a fault that isn't want of memory is the first
+-- a fault is the first, unless memory ran out
 abbrev pub IsFault : List ℕ → LratFault → Type 0
 IsFault text (faults.At line kind) = IsFirstFault text line kind
 IsFault text faults.OutOfMemory = Unit {0}

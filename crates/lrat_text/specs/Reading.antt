@@ -10,8 +10,8 @@ use Rattle.lrat_text.specs.declared.fault.LratKind.{LratKind}
 use Rattle.lrat_text.specs.declared.fault.LratKind.TheVariants as kinds
 use Rattle.lrat_text.specs.declared.fault.LratFault.{LratFault}
 use Rattle.lrat_text.specs.declared.fault.LratFault.TheVariants as faults
-use Rattle.lrat_text.specs.declared.fault.LineFault.{LineFault}
-use Rattle.lrat_text.specs.declared.fault.LineFault.TheVariants as lines_of
+use Rattle.text_words.specs.declared.fault.LineFault.{LineFault}
+use Rattle.text_words.specs.declared.fault.LineFault.TheVariants as lines_of
 
 infixl 10 ◌>>=◌
 abbrev pub ◌>>=◌ : {A B E : Type 0} → Result A E → (A → Result B E) → Result B E
@@ -117,14 +117,14 @@ Gives view (Ok x) read = read ≡ Ok (view x)
 Gives view (Err e) read = Fails e read
 
 -- the same of a line
-abbrev pub FailsOnLine : {A : Type 0} → LineFault → Result A LratKind → Type 0
+abbrev pub FailsOnLine : {A : Type 0} → LineFault LratKind → Result A LratKind → Type 0
 FailsOnLine (lines_of.Kind kind) read = read ≡ Err kind
 FailsOnLine lines_of.OutOfMemory read = Unit {0}
 
-abbrev pub GivesOnLine : {A B : Type 0} → (A → B) → Result A LineFault → Result B LratKind → Type 0
+abbrev pub GivesOnLine : {A B : Type 0} → (A → B) → Result A (LineFault LratKind) → Result B LratKind → Type 0
 GivesOnLine view (Ok x) read = read ≡ Ok (view x)
 GivesOnLine view (Err e) read = FailsOnLine e read
 
-abbrev pub on_line : ℕ → LineFault → LratFault
+abbrev pub on_line : ℕ → LineFault LratKind → LratFault
 on_line n (lines_of.Kind kind) = faults.At n kind
 on_line n lines_of.OutOfMemory = faults.OutOfMemory

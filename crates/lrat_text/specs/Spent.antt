@@ -1,6 +1,6 @@
 -- A proof that spends a number of lemmas, each of them new, and when each is earned.
 use Rattle.std.specs.Prelude.{◌≡◌, ◌≢◌, ℕ, IsTrue, ℤ, List, [], ◌∷◌, ◌++◌, length, All}
-use Rattle.cnf_base.specs.Judged.{has}
+use Rattle.cnf_base.specs.Status.{has}
 use Rattle.cnf_base.specs.Meaning.{CnfFormula, IsWithin}
 use Rattle.lrat_text.specs.declared.proof.LratStep.{LratStep}
 use Rattle.lrat_text.specs.declared.proof.LratStep.TheVariants.{Add, Delete}

@@ -21,12 +21,22 @@ step_text (Delete at_id ids) = id_text at_id ++ codes "d " ++ flat_map id_text i
 abbrev pub proof_text : List LratStep → List ℕ
 proof_text proof = flat_map step_text proof
 
--- the ids and hints of a step are those of the format
+-- ---- the proofs that a text can spell
+
+-- a step's ids are 1 to 2^63 - 1, and its hints aren't 0 and have a size below 2^63
 abbrev pub HasIdsAndHints : LratStep → Type 0
 HasIdsAndHints (Add id lits hints) = IsId id × AllByRecursion IsHint hints
 HasIdsAndHints (Delete at_id ids) = IsId at_id × AllByRecursion IsId ids
 
--- and so are its literals
+-- a step's literals aren't 0 and have 32 bits, as those of the type `CnfLit` always do
 abbrev pub HasLiterals : LratStep → Type 0
 HasLiterals (Add id lits hints) = AllByRecursion IsLiteral lits
 HasLiterals (Delete at_id ids) = Unit {0}
+
+-- the ids and hints of each step are those of the format
+abbrev pub IsWritable : List LratStep → Type 0
+IsWritable proof = AllByRecursion HasIdsAndHints proof
+
+-- and so are the literals
+abbrev pub HasProofLiterals : List LratStep → Type 0
+HasProofLiterals proof = AllByRecursion HasLiterals proof

@@ -5,6 +5,7 @@ ghost use Rattle.lrat_text.specs.Reading.{on_line};
 
 use ketch_base::OutOfMemory;
 use std::alloc::AllocFailed;
+use text_words::LineFault;
 use thiserror::Error;
 
 #[derive(Clone, Copy, Debug, PartialEq, Eq)]
@@ -48,53 +49,23 @@ impl From<OutOfMemory> for LratFault {
     }
 }
 
-/// What stopped the reading of a line.
-#[derive(Clone, Copy, Debug, PartialEq, Eq)]
-pub enum LineFault {
-    Kind(LratKind),
-    OutOfMemory,
-}
-
-impl LineFault {
-    pub fn on_line(self, line: u32) -> LratFault
-        ensures { result ≡ on_line line self }
-    {
-        match self {
-            LineFault::Kind(kind) => LratFault::At { line, kind },
-            LineFault::OutOfMemory => LratFault::OutOfMemory,
-        }
+/// The fault of a line in the text that it stands in.
+pub fn on_line(fault: LineFault<LratKind>, line: u32) -> LratFault
+    ensures { result ≡ on_line line fault }
+{
+    match fault {
+        LineFault::Kind(kind) => LratFault::At { line, kind },
+        LineFault::OutOfMemory => LratFault::OutOfMemory,
     }
 }
 
-impl From<LratKind> for LineFault {
+impl From<LratKind> for LineFault<LratKind> {
     ghost use Rattle.std.specs.Prelude.{◌≡◌};
-    ghost use Rattle.lrat_text.specs.declared.fault.LineFault.TheVariants.{Kind};
+    ghost use Rattle.text_words.specs.declared.fault.LineFault.TheVariants.{Kind};
 
     ghost from_gives = { λ kind e. e ≡ Kind kind };
 
-    fn from(kind: LratKind) -> LineFault {
+    fn from(kind: LratKind) -> LineFault<LratKind> {
         LineFault::Kind(kind)
-    }
-}
-
-impl<T: Drop> From<AllocFailed<T>> for LineFault {
-    ghost use Rattle.std.specs.Prelude.{◌≡◌};
-    ghost use Rattle.lrat_text.specs.declared.fault.LineFault.TheVariants.{OutOfMemory};
-
-    ghost from_gives = { λ _ e. e ≡ OutOfMemory };
-
-    fn from(_error: AllocFailed<T>) -> LineFault {
-        LineFault::OutOfMemory
-    }
-}
-
-impl From<OutOfMemory> for LineFault {
-    ghost use Rattle.std.specs.Prelude.{◌≡◌};
-    ghost use Rattle.lrat_text.specs.declared.fault.LineFault.TheVariants.{OutOfMemory};
-
-    ghost from_gives = { λ _ e. e ≡ OutOfMemory };
-
-    fn from(_error: OutOfMemory) -> LineFault {
-        LineFault::OutOfMemory
     }
 }

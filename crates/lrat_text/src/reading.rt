@@ -7,7 +7,7 @@ ghost use Rattle.lrat_text.specs.Reading.{Gives, reading};
 ghost use Rattle.lrat_text.specs.declared.fault.LratKind.{LratKind};
 ghost use Rattle.lrat_text.specs.declared.proof.LratStep.{LratStep};
 
-use crate::fault::LratFault;
+use crate::fault::{LratFault, on_line};
 use crate::proof::Proof;
 use crate::step::read_step;
 use std::alloc::Global;
@@ -41,7 +41,7 @@ fn read(alloc: Global, bytes: &[u8]) -> Result<Proof, LratFault>
         };
         match read_step(alloc, first, words) {
             Ok(step) => proof.push(step)?,
-            Err(fault) => return Err(fault.on_line(number)),
+            Err(fault) => return Err(on_line(fault, number)),
         }
     }
     Ok(proof)

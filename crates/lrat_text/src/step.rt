@@ -3,15 +3,19 @@
 ghost use Rattle.std.specs.Prelude.{[]};
 ghost use Rattle.lrat_text.specs.Reading.{GivesOnLine, list_from, literal_of, hint_of, deleted_of, at_end, addition_of, deletion_of, step_of};
 
-use crate::fault::{LineFault, LratKind};
+use crate::fault::LratKind;
 use crate::proof::{Hints, Ids, LratStep};
 use crate::word::{past_end, read_deleted, read_hint, read_id, read_literal};
 use cnf_base::{Clause, CnfLit};
 use std::alloc::Global;
-use text_words::Words;
+use text_words::{LineFault, Words};
 
 /// The step with these words.
-pub fn read_step(alloc: Global, first: &[u8], rest: Words<'_>) -> Result<LratStep, LineFault>
+pub fn read_step(
+    alloc: Global,
+    first: &[u8],
+    rest: Words<'_>,
+) -> Result<LratStep, LineFault<LratKind>>
     ensures { GivesOnLine (λ s. s) result (step_of first.now rest.entry) }
 {
     let id = read_id(first)?;
@@ -23,7 +27,7 @@ pub fn read_step(alloc: Global, first: &[u8], rest: Words<'_>) -> Result<LratSte
     }
 }
 
-fn read_addition(alloc: Global, id: u64, words: Words<'_>) -> Result<LratStep, LineFault>
+fn read_addition(alloc: Global, id: u64, words: Words<'_>) -> Result<LratStep, LineFault<LratKind>>
     ensures { GivesOnLine (λ s. s) result (addition_of id words.entry) }
 {
     let (lits, words) = read_literals(alloc, words)?;
@@ -37,7 +41,7 @@ fn read_addition(alloc: Global, id: u64, words: Words<'_>) -> Result<LratStep, L
     check_end(step, words)
 }
 
-fn read_deletion(alloc: Global, at: u64, words: Words<'_>) -> Result<LratStep, LineFault>
+fn read_deletion(alloc: Global, at: u64, words: Words<'_>) -> Result<LratStep, LineFault<LratKind>>
     ensures { GivesOnLine (λ s. s) result (deletion_of at words.entry) }
 {
     let (ids, words) = read_ids(alloc, words)?;
@@ -49,7 +53,7 @@ fn read_deletion(alloc: Global, at: u64, words: Words<'_>) -> Result<LratStep, L
 }
 
 /// The step, where no word is left.
-fn check_end(step: LratStep, words: Words<'_>) -> Result<LratStep, LineFault>
+fn check_end(step: LratStep, words: Words<'_>) -> Result<LratStep, LineFault<LratKind>>
     ensures { GivesOnLine (λ s. s) result (at_end step words.entry) }
 {
     let mut words = words;
@@ -60,7 +64,10 @@ fn check_end(step: LratStep, words: Words<'_>) -> Result<LratStep, LineFault>
 }
 
 /// The literals up to a 0, and the words after it.
-fn read_literals(alloc: Global, words: Words<'_>) -> Result<(Vec<CnfLit>, Words<'_>), LineFault>
+fn read_literals(
+    alloc: Global,
+    words: Words<'_>,
+) -> Result<(Vec<CnfLit>, Words<'_>), LineFault<LratKind>>
     ensures { GivesOnLine (λ r. (r.0.items, r.1)) result (list_from literal_of [] words.entry) }
 {
     let mut words = words;
@@ -74,7 +81,7 @@ fn read_literals(alloc: Global, words: Words<'_>) -> Result<(Vec<CnfLit>, Words<
     Err(LineFault::Kind(LratKind::Truncated))
 }
 
-fn read_hints(alloc: Global, words: Words<'_>) -> Result<(Vec<i64>, Words<'_>), LineFault>
+fn read_hints(alloc: Global, words: Words<'_>) -> Result<(Vec<i64>, Words<'_>), LineFault<LratKind>>
     ensures { GivesOnLine (λ r. (r.0.items, r.1)) result (list_from hint_of [] words.entry) }
 {
     let mut words = words;
@@ -89,7 +96,7 @@ fn read_hints(alloc: Global, words: Words<'_>) -> Result<(Vec<i64>, Words<'_>), 
     Err(LineFault::Kind(LratKind::Truncated))
 }
 
-fn read_ids(alloc: Global, words: Words<'_>) -> Result<(Vec<u64>, Words<'_>), LineFault>
+fn read_ids(alloc: Global, words: Words<'_>) -> Result<(Vec<u64>, Words<'_>), LineFault<LratKind>>
     ensures { GivesOnLine (λ r. (r.0.items, r.1)) result (list_from deleted_of [] words.entry) }
 {
     let mut words = words;

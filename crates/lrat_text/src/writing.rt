@@ -3,7 +3,7 @@
 ghost use Rattle.std.specs.Prelude.{◌≡◌, ◌++◌, IfOk, OnOk};
 ghost use Rattle.std.specs.List.{AllByRecursion, flat_map};
 ghost use Rattle.lrat_text.specs.Lrat.{SpellsProof, IsLiteral};
-ghost use Rattle.lrat_text.specs.Text.{proof_text, step_text, id_text, number_text, HasIdsAndHints, HasLiterals};
+ghost use Rattle.lrat_text.specs.Text.{proof_text, step_text, id_text, number_text, IsWritable, HasLiterals};
 ghost use Rattle.lrat_text.specs.declared.proof.LratStep.TheVariants.{Add, Delete};
 
 use crate::proof::{Hints, Ids, LratStep, Proof};
@@ -15,8 +15,7 @@ use text_words::{push_integer, push_natural};
 /// A line for each step.
 pub fn write_lrat(alloc: Global, proof: &Proof) -> Result<Vec<u8>, OutOfMemory>
     ensures text { IfOk result (λ text. text.items ≡ proof_text proof.now) }
-    ensures reads_back { IfOk result (λ text.
-        AllByRecursion HasIdsAndHints proof.now → SpellsProof text.items proof.now) }
+    ensures reads_back { IfOk result (λ text. IsWritable proof.now → SpellsProof text.items proof.now) }
 {
     let mut text = Vec::new(alloc);
     for step in proof.as_slice() {

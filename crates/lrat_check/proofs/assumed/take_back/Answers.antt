@@ -1,6 +1,6 @@
 use Rattle.std.proofs.Common.{arith}
-use Rattle.lrat_check.specs.Assuming.{sign_at}
-use Rattle.lrat_check.proofs.Signing.{Covers-less}
+use Rattle.lrat_check.specs.Assumptions.{sign_at}
+use Rattle.lrat_check.proofs.AssumedSigns.{Covers-less}
 use Rattle.lrat_check.proofs.assumed.take_back.Goals as goal
 
 pub loop-assumption-preserved : goal.loop-assumption-preserved

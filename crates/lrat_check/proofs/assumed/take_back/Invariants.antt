@@ -1,6 +1,6 @@
 use Rattle.std.proofs.Common.{drop}
-use Rattle.lrat_check.specs.Assuming.{sign_at}
-use Rattle.lrat_check.proofs.Signing.{Covers}
+use Rattle.lrat_check.specs.Assumptions.{sign_at}
+use Rattle.lrat_check.proofs.AssumedSigns.{Covers}
 use Rattle.lrat_check.proofs.assumed.take_back.Given as goal
 
 -- what the signs have is among the literals that are left

@@ -1,5 +1,5 @@
 use Rattle.std.proofs.Common.{arith}
-use Rattle.lrat_check.proofs.Numbering.{numbered_more}
+use Rattle.lrat_check.proofs.FormulaIds.{numbered_more}
 use Rattle.lrat_check.proofs.checker.store_of.Goals as goal
 
 pub loop-place-preserved : goal.loop-place-preserved

@@ -1,5 +1,5 @@
 use Rattle.std.proofs.Common.{◌≡◌}
-use Rattle.lrat_check.proofs.Numbering.{numbered}
+use Rattle.lrat_check.proofs.FormulaIds.{numbered}
 use Rattle.lrat_check.proofs.checker.store_of.Given as goal
 
 abbrev pub invariant-loop-place : goal.invariant-loop-place

@@ -2,8 +2,8 @@ use Rattle.std.proofs.Common.{◌+◌, arith, ℤ, List, take, subst, sym, ◌�
 use Rattle.std.specs.List.{All}
 use Rattle.std.proofs.lemmas.List.{take_all}
 use Rattle.lrat_text.specs.declared.proof.LratStep.{LratStep}
-use Rattle.lrat_check.specs.Keying.{IsKeyOf, Keys, HoldsStep}
-use Rattle.lrat_check.proofs.Keying.{asked_more, asked_same}
+use Rattle.lrat_check.specs.ClauseKeys.{IsKeyOf, Keys, HoldsStep}
+use Rattle.lrat_check.proofs.ClauseKeys.{asked_more, asked_same}
 use Rattle.lrat_check.proofs.key.asked_keys.Goals as goal
 use Rattle.lrat_check.proofs.key.asked_keys.Goals.{in-Add+in_ok-key_of+in_ok-insert, in_default}
 

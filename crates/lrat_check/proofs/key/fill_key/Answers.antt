@@ -3,7 +3,7 @@ use Rattle.std.specs.List.Sorted.{IsPermutation}
 use Rattle.std.specs.Ordering.{int_eq}
 use Rattle.std.proofs.lemmas.List.{take_all}
 use Rattle.std.proofs.lemmas.List.Filters.{dedup_is}
-use Rattle.lrat_check.proofs.Keying.{IsKeyOf-sorted}
+use Rattle.lrat_check.proofs.ClauseKeys.{IsKeyOf-sorted}
 use Rattle.lrat_check.proofs.key.fill_key.Goals as goal
 
 pub returns : goal.returns

@@ -1,8 +1,8 @@
 use Rattle.std.proofs.Common.{◌≡◌, ◌+◌, ◌∷◌, ◌++◌, [], rules, arith, false, ℤ, List, take, subst, sym, ap, ◌∙◌}
 use Rattle.std.proofs.lemmas.List.{take_all, take_more}
 use Rattle.std.proofs.lemmas.List.Elements.{same_from_all_zip}
-use Rattle.lrat_check.specs.Keying.{IsKeyOf, Keys, holds, AreTaken}
-use Rattle.lrat_check.proofs.Keying.{AreTaken-insert, AreTaken-skip}
+use Rattle.lrat_check.specs.ClauseKeys.{IsKeyOf, Keys, holds, AreTaken}
+use Rattle.lrat_check.proofs.ClauseKeys.{AreTaken-insert, AreTaken-skip}
 use Rattle.lrat_check.proofs.key.taken_keys.Goals as goal
 use Rattle.lrat_check.proofs.key.taken_keys.Goals.{then-contains+in_ok-clone+in_ok-insert, else-contains}
 

@@ -1,5 +1,5 @@
 use Rattle.std.proofs.Common.{take}
-use Rattle.lrat_check.specs.Keying.{AreTaken}
+use Rattle.lrat_check.specs.ClauseKeys.{AreTaken}
 use Rattle.lrat_check.proofs.key.taken_keys.Given as goal
 
 abbrev pub invariant-loop-clause : goal.invariant-loop-clause

@@ -1,4 +1,4 @@
-use Rattle.lrat_check.proofs.Counting.{earned_are_few}
+use Rattle.lrat_check.proofs.FewLemmas.{earned_are_few}
 use Rattle.lrat_check.proofs.laws.earned_are_few.Goals as goal
 
 pub returns : goal.returns

@@ -1,4 +1,4 @@
-use Rattle.lrat_check.proofs.Spending.{spent_without_fault}
+use Rattle.lrat_check.proofs.SpentFaults.{spent_without_fault}
 use Rattle.lrat_check.proofs.laws.spent_without_fault.Goals as goal
 
 pub returns : goal.returns

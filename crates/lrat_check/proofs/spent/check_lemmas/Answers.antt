@@ -1,7 +1,7 @@
 use Rattle.std.proofs.Common.{arith, ℤ, List, take, subst, sym, ◌∙◌}
 use Rattle.lrat_text.specs.declared.proof.LratStep.{LratStep}
-use Rattle.lrat_check.specs.Keying.{HoldsStep, AreTaken}
-use Rattle.lrat_check.proofs.Taking.{earlier_after, earlier_more, no_lemma, one_lemma}
+use Rattle.lrat_check.specs.ClauseKeys.{HoldsStep, AreTaken}
+use Rattle.lrat_check.proofs.TakenLemmas.{earlier_after, earlier_more, no_lemma, one_lemma}
 use Rattle.lrat_check.proofs.spent.check_lemmas.Goals as goal
 
 pub returns-then-not-branch : goal.returns-then-not-branch

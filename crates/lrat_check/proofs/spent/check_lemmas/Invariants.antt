@@ -1,8 +1,8 @@
 use Rattle.std.proofs.Common.{◌≡◌, take, drop}
-use Rattle.lrat_check.specs.Keying.{AreTaken}
+use Rattle.lrat_check.specs.ClauseKeys.{AreTaken}
 use Rattle.lrat_check.specs.SpentFault.{spent_from}
 use Rattle.lrat_text.specs.Standing.{start}
-use Rattle.lrat_check.proofs.Taking.{earlier_after}
+use Rattle.lrat_check.proofs.TakenLemmas.{earlier_after}
 use Rattle.lrat_check.proofs.spent.check_lemmas.Given as goal
 
 -- the steps that are left have the first fault of all, and the keys of the clauses so far are taken

@@ -1,7 +1,7 @@
 use Rattle.std.proofs.Common.{◌≡◌, rules, None, MatchResult}
 use Rattle.lrat_check.specs.SpentFault.{spent_fault, IsSpentFault}
-use Rattle.lrat_check.proofs.Answering.{IsOkUnless-from_spent_answer}
-use Rattle.lrat_check.proofs.Spending.{spent_without_fault}
+use Rattle.lrat_check.proofs.CallAnswers.{IsOkUnless-from_spent_answer}
+use Rattle.lrat_check.proofs.SpentFaults.{spent_without_fault}
 use Rattle.lrat_check.proofs.spent.check_spent.Goals as goal
 
 pub returns-in_err-check_lemmas-clause-refused : goal.returns-in_err-check_lemmas-clause-refused

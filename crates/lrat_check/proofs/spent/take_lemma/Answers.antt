@@ -1,7 +1,7 @@
 use Rattle.std.proofs.Common.{ℤ, List, subst, sym, ◌∙◌}
 use Rattle.std.proofs.lemmas.Bool.{both_ways}
-use Rattle.lrat_check.specs.Keying.{IsKeyOf}
-use Rattle.lrat_check.proofs.Keying.{TakesStep-insert}
+use Rattle.lrat_check.specs.ClauseKeys.{IsKeyOf}
+use Rattle.lrat_check.proofs.ClauseKeys.{TakesStep-insert}
 use Rattle.lrat_check.proofs.spent.take_lemma.Goals as goal
 
 pub returns-clause-lemma : goal.returns-clause-lemma

@@ -1,6 +1,6 @@
 use Rattle.std.proofs.Common.{sym}
 use Rattle.lrat_check.proofs.Blank.{blank}
-use Rattle.lrat_check.proofs.Storing.{is_alive-none, is_alive-at, killed-none, killed-at}
+use Rattle.lrat_check.proofs.LiveClauses.{is_alive-none, is_alive-at, killed-none, killed-at}
 use Rattle.lrat_check.proofs.store.kill.Goals as goal
 
 pub returns-in_default-clause-was : goal.returns-in_default-clause-was

@@ -1,9 +1,9 @@
 use Rattle.std.proofs.Common.{arith, ◌≡◌, ◌+◌, ◌∷◌, ◌++◌, [], ℕ, true, List, map, take, drop, get_or, Some, refl, subst, sym, ap, ◌∙◌}
 use Rattle.std.proofs.lemmas.Bool.{cond-true}
 use Rattle.std.proofs.lemmas.List.{take_more, drop_more}
-use Rattle.lrat_check.specs.Storing.{IsRising, is_alive, killed, killed_all, first_dead, revived_by}
+use Rattle.lrat_check.specs.StoredClauses.{IsRising, is_alive, killed, killed_all, first_dead, revived_by}
 use Rattle.lrat_check.specs.declared.store.Entry.{Entry}
-use Rattle.lrat_check.proofs.Storing.{IsRising-killed, killed-dead, revived_by-killed, revived_by-nil}
+use Rattle.lrat_check.proofs.LiveClauses.{IsRising-killed, killed-dead, revived_by-killed, revived_by-nil}
 use Rattle.lrat_check.proofs.store.kill_all.Goals as goal
 
 pub loop-place-init : goal.loop-place-init

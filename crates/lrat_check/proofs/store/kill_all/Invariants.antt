@@ -1,5 +1,5 @@
 use Rattle.std.proofs.Common.{◌≡◌, map, take, drop}
-use Rattle.lrat_check.specs.Storing.{IsRising, killed_all, first_dead, revived_by}
+use Rattle.lrat_check.specs.StoredClauses.{IsRising, killed_all, first_dead, revived_by}
 use Rattle.lrat_check.proofs.store.kill_all.Given as goal
 
 -- the ids so far are killed, each was alive at its turn, and reviving them leads back

@@ -1,5 +1,5 @@
 use Rattle.lrat_check.proofs.Blank.{blank}
-use Rattle.lrat_check.proofs.Storing.{clause_at-none, clause_at-alive, clause_at-dead}
+use Rattle.lrat_check.proofs.LiveClauses.{clause_at-none, clause_at-alive, clause_at-dead}
 use Rattle.lrat_check.proofs.store.live_clause.Goals as goal
 
 pub returns-in_default-clause-none : goal.returns-in_default-clause-none

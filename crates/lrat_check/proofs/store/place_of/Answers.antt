@@ -1,6 +1,6 @@
 use Rattle.std.proofs.Common.{arith, ◌+◌, ◌-◌, ◌/◌, ◌<◌, ℕ, get_or}
 use Rattle.lrat_check.proofs.Blank.{blank}
-use Rattle.lrat_check.proofs.Finding.{ids_below, ids_above}
+use Rattle.lrat_check.proofs.EntryOrder.{ids_below, ids_above}
 use Rattle.lrat_check.proofs.store.place_of.Goals as goal
 
 pub loop-low-preserved-then-found-id-2 : goal.loop-low-preserved-then-found-id-2

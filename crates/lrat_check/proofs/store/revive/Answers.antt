@@ -1,6 +1,6 @@
 use Rattle.std.proofs.Common.{sym}
 use Rattle.lrat_check.proofs.Blank.{blank}
-use Rattle.lrat_check.proofs.Storing.{revived-none, revived-at}
+use Rattle.lrat_check.proofs.LiveClauses.{revived-none, revived-at}
 use Rattle.lrat_check.proofs.store.revive.Goals as goal
 
 pub returns-in_default : goal.returns-in_default

@@ -1,8 +1,8 @@
 use Rattle.std.proofs.Common.{arith, ℕ, List, map, take, get_or, subst, sym, ap, ◌∙◌}
 use Rattle.std.proofs.lemmas.List.{take_more}
-use Rattle.lrat_check.specs.Storing.{IsRising, revived, revived_by}
+use Rattle.lrat_check.specs.StoredClauses.{IsRising, revived, revived_by}
 use Rattle.lrat_check.specs.declared.store.Entry.{Entry}
-use Rattle.lrat_check.proofs.Storing.{IsRising-revived, revived_by-push, revived_by-nil}
+use Rattle.lrat_check.proofs.LiveClauses.{IsRising-revived, revived_by-push, revived_by-nil}
 use Rattle.lrat_check.proofs.store.revive_all.Goals as goal
 
 pub loop-id-init : goal.loop-id-init

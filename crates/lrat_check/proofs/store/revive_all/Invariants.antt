@@ -1,5 +1,5 @@
 use Rattle.std.proofs.Common.{◌≡◌, map, take}
-use Rattle.lrat_check.specs.Storing.{IsRising, revived_by}
+use Rattle.lrat_check.specs.StoredClauses.{IsRising, revived_by}
 use Rattle.lrat_check.proofs.store.revive_all.Given as goal
 
 -- the ids so far are revived

@@ -1,5 +1,5 @@
 use Rattle.std.proofs.Common.{arith, sym, ◌∙◌}
-use Rattle.lrat_check.proofs.Negating.{true_has, not_true_has, tautology_found, plain_more, negations_more}
+use Rattle.lrat_check.proofs.Negations.{true_has, not_true_has, tautology_found, plain_more, negations_more}
 use Rattle.lrat_check.proofs.walk.assume_negations.Goals as goal
 
 pub returns-in-True-clause-tautology : goal.returns-in-True-clause-tautology

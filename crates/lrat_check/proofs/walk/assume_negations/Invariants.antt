@@ -1,5 +1,5 @@
 use Rattle.std.proofs.Common.{◌≡◌, take, map, neg_ℤ, false}
-use Rattle.cnf_base.specs.Judged.{is_tautology}
+use Rattle.cnf_base.specs.Status.{is_tautology}
 use Rattle.lrat_check.proofs.walk.assume_negations.Given as goal
 
 -- the literals so far are assumed negated, and none of them stands both ways among them

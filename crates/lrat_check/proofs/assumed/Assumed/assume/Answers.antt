@@ -1,5 +1,5 @@
-use Rattle.lrat_check.specs.Assuming.{sign_at}
-use Rattle.lrat_check.proofs.Signing.{AreSignsOf-assumed}
+use Rattle.lrat_check.specs.Assumptions.{sign_at}
+use Rattle.lrat_check.proofs.AssumedSigns.{AreSignsOf-assumed}
 use Rattle.lrat_check.proofs.assumed.Assumed.assume.Goals as goal
 
 pub invariant_of-self-in-Ok : goal.invariant_of-self-in-Ok

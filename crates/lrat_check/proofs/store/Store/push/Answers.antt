@@ -1,8 +1,8 @@
 use Rattle.std.proofs.Common.{◌++◌, ◌+◌, ℕ, ℤ, List, length, true, refl, ap, ◌∙◌}
 use Rattle.lrat_text.specs.Standing.{Standing, with_clause}
-use Rattle.lrat_check.specs.Storing.{live_of}
+use Rattle.lrat_check.specs.StoredClauses.{live_of}
 use Rattle.lrat_check.specs.declared.store.Entry.{Entry}
-use Rattle.lrat_check.proofs.Growing.{live_of-push}
+use Rattle.lrat_check.proofs.StoreOrder.{live_of-push}
 use Rattle.lrat_check.proofs.store.Store.push.Goals as goal
 
 pub returns-clause-ok : goal.returns-clause-ok

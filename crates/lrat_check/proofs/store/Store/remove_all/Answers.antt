@@ -1,10 +1,10 @@
 use Rattle.std.proofs.Common.{◌≡◌, ℕ, ℤ, List, length, sym, subst, ap, ◌∙◌}
 use Rattle.lrat_check.specs.FirstFault.{delete_fault}
 use Rattle.lrat_text.specs.Standing.{Standing, with_deleted}
-use Rattle.lrat_check.specs.Storing.{live_of, killed_all, IsStore, first_dead}
+use Rattle.lrat_check.specs.StoredClauses.{live_of, killed_all, IsStore, first_dead}
 use Rattle.lrat_check.specs.declared.store.Entry.{Entry}
-use Rattle.lrat_check.proofs.Storing.{live_of-killed_all, no_delete_fault, delete_fault-dead}
-use Rattle.lrat_check.proofs.Growing.{IsStore-killed_all, lent_back}
+use Rattle.lrat_check.proofs.LiveClauses.{live_of-killed_all, no_delete_fault, delete_fault-dead}
+use Rattle.lrat_check.proofs.StoreOrder.{IsStore-killed_all, lent_back}
 use Rattle.lrat_check.proofs.store.Store.remove_all.Goals as goal
 
 pub returns-in-Err-clause-fault : goal.returns-in-Err-clause-fault
