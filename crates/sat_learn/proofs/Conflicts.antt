@@ -3,44 +3,43 @@ use Rattle.std.proofs.Common.{◌≡◌, ℕ, ◌+◌, ◌-◌, ◌<◌, ◌≤�
 use Rattle.std.specs.List.{list_any, count_by, All}
 use Rattle.std.proofs.lemmas.Bool.{cases_lt, or_cases, or_right, both_ways, false_from_ne_true}
 use Rattle.std.proofs.lemmas.Option.{slice_get_within}
-use Rattle.cnf_base.specs.Judged.{has, IsRefutedIn}
-use Rattle.cnf_base.proofs.Literals.{neg_ℤ-neg_ℤ}
-use Rattle.lrat_text.specs.Accepted.{Ends}
-use Rattle.sat_trail.specs.Trail.{Put, TrailState, IsTrail, lits, upto}
-use Rattle.sat_learn.specs.Reasons.{IsCalled}
+use Rattle.cnf_base.specs.Status.{has, IsFalsifiedIn}
+use Rattle.cnf_base.proofs.Literals.{neg_ℤ-neg_ℤ, nat_abs-neg_ℤ}
+use Rattle.sat_trail.specs.Trail.{Assignment, TrailState, IsTrail, lits, upto}
+use Rattle.sat_learn.specs.Reasons.{HasId, Follows}
 use Rattle.sat_learn.specs.Resolving.{is_marked, StandsAt, Refutes, AreBelow, AreRootsClear, DifferAtRoots, with_marks}
-use Rattle.sat_learn.specs.Tracking.{is_open, IsFiled, IsBetween, IsTracked, IsPoint, IsReduced}
-use Rattle.sat_learn.proofs.Puts.{put_there, true_there, one_put, same_at, upto_true, true_upto, level_to, nat_abs-neg_ℤ}
-use Rattle.sat_learn.proofs.Refuting.{refutes_conflict}
-use Rattle.sat_learn.proofs.Counting.{count_some, count_one}
-use Rattle.sat_learn.proofs.Marking.{open_from, has_at, false_in_range}
-use Rattle.sat_learn.proofs.Tracked.{any_var}
+use Rattle.sat_learn.specs.Tracking.{is_open, IsFiled, IsBetween, IsTracked, IsFirstUip, IsMinimized}
+use Rattle.sat_learn.proofs.Assignments.{assignment_there, true_there, one_assignment, same_at, upto_true, true_upto, level_to}
+use Rattle.sat_learn.proofs.Refutation.{refutes_conflict}
+use Rattle.sat_learn.proofs.Counts.{count_some, count_one}
+use Rattle.sat_learn.proofs.MarkedLiterals.{open_from, has_at, false_in_range}
+use Rattle.sat_learn.proofs.Tracking.{any_var}
 use Rattle.sat_learn.proofs.ResolveStep.{any_from}
 
 -- all literals stand below the trail's end
-pub all_below : (ps : List Put) (marks : List Bool) (n : ℕ) → n ≡ length ps → AreBelow ps marks n
+pub all_below : (ps : List Assignment) (marks : List Bool) (n : ℕ) → n ≡ length ps → AreBelow ps marks n
 all_below ps marks n is i p there marked = let lt = slice_get_within ps i p there in omega arith
 
 -- the put of a kept literal
-kept_put : (t : TrailState) (i : ℕ) (p : Put) → IsTrail t → StandsAt t.puts i p → (h : IsBetween t (neg_ℤ p.lit)) → p.level ≡ h.level
-kept_put t i p trail there h =
-    let same : p ≡ h.false_at.put = one_put t i h.false_at.place p h.false_at.put trail there h.false_at.stands (ap nat_abs (sym (h.false_at.negated ∙ neg_ℤ-neg_ℤ p.lit))) in
-    ap (λ (q : Put). q.level) same ∙ h.false_at.at_level
+kept_assignment : (t : TrailState) (i : ℕ) (p : Assignment) → IsTrail t → StandsAt t.assignments i p → (h : IsBetween t (neg_ℤ p.lit)) → p.level ≡ h.level
+kept_assignment t i p trail there h =
+    let same : p ≡ h.false_at.assignment = one_assignment t i h.false_at.place p h.false_at.assignment trail there h.false_at.stands (ap nat_abs (sym (h.false_at.negated ∙ neg_ℤ-neg_ℤ p.lit))) in
+    ap (λ (q : Assignment). q.level) same ∙ h.false_at.at_level
 
 -- ---- level 0
 
-pub roots_clear_untracked : (t : TrailState) (marks : List Bool) (kept : List ℤ) (rooted : Bool) (number : ℕ) → IsTrail t → IsTracked t marks kept rooted number → rooted ≡ false → AreRootsClear t.puts marks 0
+pub roots_clear_untracked : (t : TrailState) (marks : List Bool) (kept : List ℤ) (rooted : Bool) (number : ℕ) → IsTrail t → IsTracked t marks kept rooted number → rooted ≡ false → AreRootsClear t.assignments marks 0
 roots_clear_untracked t marks kept rooted number trail h none i p there root from =
     false_from_ne_true (is_marked marks p.lit) (λ marked.
     let filed = h.filed (nat_abs p.lit) marked in
-    let same : filed.put ≡ p = one_put t filed.place i filed.put p trail filed.stands there filed.of_var in
-    let level_is : filed.put.level ≡ 0 = ap (λ (q : Put). q.level) same ∙ root in
+    let same : filed.assignment ≡ p = one_assignment t filed.place i filed.assignment p trail filed.stands there filed.of_var in
+    let level_is : filed.assignment.level ≡ 0 = ap (λ (q : Assignment). q.level) same ∙ root in
     let above = h.above in
     elim filed.filed [
       | inl e ↦ both_ways rooted none e.0
       | inr e ↦ elim e [
-        | inl k ↦ (let x = h.between (neg_ℤ filed.put.lit) k in
-            let levels = kept_put t filed.place filed.put trail filed.stands x in
+        | inl k ↦ (let x = h.between (neg_ℤ filed.assignment.lit) k in
+            let levels = kept_assignment t filed.place filed.assignment trail filed.stands x in
             let low = x.above_root in
             absurd (omega arith))
         | inr k ↦ absurd (omega arith)
@@ -49,90 +48,90 @@ roots_clear_untracked t marks kept rooted number trail h none i p there root fro
 
 -- ---- the present level
 
-pub conflict_open : (t : TrailState) (marks : List Bool) (kept : List ℤ) (rooted : Bool) (number : ℕ) (conflict : List ℤ) → IsTrail t → IsTracked t marks kept rooted number → ((l : ℤ) → has conflict l ≡ true → is_marked marks l ≡ true) → IsRefutedIn (lits t.puts) conflict → (IsRefutedIn (lits (upto (t.level - 1) t.puts)) conflict → ⊥) → 0 < number
+pub conflict_open : (t : TrailState) (marks : List Bool) (kept : List ℤ) (rooted : Bool) (number : ℕ) (conflict : List ℤ) → IsTrail t → IsTracked t marks kept rooted number → ((l : ℤ) → has conflict l ≡ true → is_marked marks l ≡ true) → IsFalsifiedIn (lits t.assignments) conflict → (IsFalsifiedIn (lits (upto (t.level - 1) t.assignments)) conflict → ⊥) → 0 < number
 conflict_open t marks kept rooted number conflict trail h marked false_now not_before =
     elim (cases_lt 0 number) [
       | inl lt ↦ lt
       | inr none ↦ absurd (not_before (λ l inside. (not_true l inside, false_before none l inside)))
     ]
   where
-    not_true : (l : ℤ) → has conflict l ≡ true → has (lits (upto (t.level - 1) t.puts)) l ≡ false
+    not_true : (l : ℤ) → has conflict l ≡ true → has (lits (upto (t.level - 1) t.assignments)) l ≡ false
     not_true l inside =
-        false_from_ne_true (has (lits (upto (t.level - 1) t.puts)) l) (λ e.
-        let found = true_upto (t.level - 1) t.puts l e in
-        let P : ℤ → Type 0 = λ x. has (lits t.puts) x ≡ true in
-        both_ways (has (lits t.puts) l) (false_now l inside).0 (subst P found.3 (true_there t.puts found.0 found.1 found.2)))
+        false_from_ne_true (has (lits (upto (t.level - 1) t.assignments)) l) (λ e.
+        let found = true_upto (t.level - 1) t.assignments l e in
+        let P : ℤ → Type 0 = λ x. has (lits t.assignments) x ≡ true in
+        both_ways (has (lits t.assignments) l) (false_now l inside).0 (subst P found.3 (true_there t.assignments found.0 found.1 found.2)))
 
-    false_before : number ≤ 0 → (l : ℤ) → has conflict l ≡ true → has (lits (upto (t.level - 1) t.puts)) (neg_ℤ l) ≡ true
+    false_before : number ≤ 0 → (l : ℤ) → has conflict l ≡ true → has (lits (upto (t.level - 1) t.assignments)) (neg_ℤ l) ≡ true
     false_before none l inside =
         let filed = h.filed (nat_abs l) (marked l inside) in
-        let found = put_there t.puts (neg_ℤ l) (false_now l inside).1 in
-        let same : filed.put ≡ found.1 = one_put t filed.place found.0 filed.put found.1 trail filed.stands found.2 (filed.of_var ∙ sym (nat_abs-neg_ℤ l) ∙ ap nat_abs (sym found.3)) in
-        let lit_is : filed.put.lit ≡ neg_ℤ l = ap (λ (q : Put). q.lit) same ∙ found.3 in
-        let P : ℤ → Type 0 = λ x. has (lits (upto (t.level - 1) t.puts)) x ≡ true in
+        let found = assignment_there t.assignments (neg_ℤ l) (false_now l inside).1 in
+        let same : filed.assignment ≡ found.1 = one_assignment t filed.place found.0 filed.assignment found.1 trail filed.stands found.2 (filed.of_var ∙ sym (nat_abs-neg_ℤ l) ∙ ap nat_abs (sym found.3)) in
+        let lit_is : filed.assignment.lit ≡ neg_ℤ l = ap (λ (q : Assignment). q.lit) same ∙ found.3 in
+        let P : ℤ → Type 0 = λ x. has (lits (upto (t.level - 1) t.assignments)) x ≡ true in
         let above = h.above in
         let number_is = h.number in
         elim filed.filed [
-          | inl e ↦ (let root = e.1 in subst P lit_is (upto_true (t.level - 1) t.puts filed.place filed.put filed.stands (omega arith)))
+          | inl e ↦ (let root = e.1 in subst P lit_is (upto_true (t.level - 1) t.assignments filed.place filed.assignment filed.stands (omega arith)))
           | inr e ↦ elim e [
-            | inl k ↦ (let x = h.between (neg_ℤ filed.put.lit) k in
-                let levels = kept_put t filed.place filed.put trail filed.stands x in
+            | inl k ↦ (let x = h.between (neg_ℤ filed.assignment.lit) k in
+                let levels = kept_assignment t filed.place filed.assignment trail filed.stands x in
                 let below = x.below_present in
-                subst P lit_is (upto_true (t.level - 1) t.puts filed.place filed.put filed.stands (omega arith)))
-            | inr k ↦ (let here : is_marked marks filed.put.lit ≡ true = ap (λ n. get_or marks n false) filed.of_var ∙ marked l inside in
-                let some = count_some (is_open t.level marks) t.puts filed.place filed.put filed.stands (open_from t.level marks filed.put here k) in
+                subst P lit_is (upto_true (t.level - 1) t.assignments filed.place filed.assignment filed.stands (omega arith)))
+            | inr k ↦ (let here : is_marked marks filed.assignment.lit ≡ true = ap (λ n. get_or marks n false) filed.of_var ∙ marked l inside in
+                let some = count_some (is_open t.level marks) t.assignments filed.place filed.assignment filed.stands (open_from t.level marks filed.assignment here k) in
                 absurd (omega arith))
           ]
         ]
 
 -- what is marked when one literal of the present level is left
-pub reduced_from : (t : TrailState) (marks after : List Bool) (kept : List ℤ) (rooted : Bool) (number place : ℕ) → IsTrail t → IsTracked t marks kept rooted number → number ≡ 1 → IsPoint t marks place → AreRootsClear t.puts after 0 → DifferAtRoots t.puts marks after → length after ≡ t.vars + 1 → IsReduced t after kept place
-reduced_from t marks after kept rooted number place trail h one point clear differ room =
+pub minimized_from : (t : TrailState) (marks after : List Bool) (kept : List ℤ) (rooted : Bool) (number place : ℕ) → IsTrail t → IsTracked t marks kept rooted number → number ≡ 1 → IsFirstUip t marks place → AreRootsClear t.assignments after 0 → DifferAtRoots t.assignments marks after → length after ≡ t.vars + 1 → IsMinimized t after kept place
+minimized_from t marks after kept rooted number place trail h one first_uip clear differ room =
     record {
       above = h.above;
       room = room;
-      point = record {
-        put = point.put;
-        stands = point.stands;
-        marked = elim (differ (nat_abs point.put.lit)) [
-          | inl same ↦ same ∙ point.marked
-          | inr root ↦ (let is : root.put ≡ point.put = one_put t root.place place root.put point.put trail root.stands point.stands root.of_var in
-              let levels : 0 ≡ t.level = sym root.root ∙ ap (λ (q : Put). q.level) is ∙ point.at_level in
+      first_uip = record {
+        assignment = first_uip.assignment;
+        stands = first_uip.stands;
+        marked = elim (differ (nat_abs first_uip.assignment.lit)) [
+          | inl same ↦ same ∙ first_uip.marked
+          | inr root ↦ (let is : root.assignment ≡ first_uip.assignment = one_assignment t root.place place root.assignment first_uip.assignment trail root.stands first_uip.stands root.of_var in
+              let levels : 0 ≡ t.level = sym root.root ∙ ap (λ (q : Assignment). q.level) is ∙ first_uip.at_level in
               let above = h.above in
               absurd (omega arith))
         ];
-        at_level = point.at_level;
+        at_level = first_uip.at_level;
       };
       marked = λ v m. elim (differ v) [
         | inl same ↦ by_file v (sym same ∙ m) (h.filed v (sym same ∙ m)) m
-        | inr root ↦ absurd (not_rooted v root.place root.put root.stands root.root root.of_var m)
+        | inr root ↦ absurd (not_rooted v root.place root.assignment root.stands root.root root.of_var m)
       ];
       between = h.between;
     }
   where
-    not_rooted : (v i : ℕ) (p : Put) → StandsAt t.puts i p → p.level ≡ 0 → nat_abs p.lit ≡ v → get_or after v false ≡ true → ⊥
+    not_rooted : (v i : ℕ) (p : Assignment) → StandsAt t.assignments i p → p.level ≡ 0 → nat_abs p.lit ≡ v → get_or after v false ≡ true → ⊥
     not_rooted v i p there root of_var m =
         both_ways (is_marked after p.lit) (clear i p there root (omega arith)) (ap (λ n. get_or after n false) of_var ∙ m)
 
-    by_file : (v : ℕ) → get_or marks v false ≡ true → IsFiled t kept rooted v → get_or after v false ≡ true → (nat_abs point.put.lit ≡ v) ⊎ (list_any (eqb v) (map nat_abs kept) ≡ true)
+    by_file : (v : ℕ) → get_or marks v false ≡ true → IsFiled t kept rooted v → get_or after v false ≡ true → (nat_abs first_uip.assignment.lit ≡ v) ⊎ (list_any (eqb v) (map nat_abs kept) ≡ true)
     by_file v old filed m =
         let P : ℕ → Type 0 = λ n. list_any (eqb n) (map nat_abs kept) ≡ true in
         let number_is = h.number in
         elim filed.filed [
-          | inl e ↦ absurd (not_rooted v filed.place filed.put filed.stands e.1 filed.of_var m)
+          | inl e ↦ absurd (not_rooted v filed.place filed.assignment filed.stands e.1 filed.of_var m)
           | inr e ↦ elim e [
-            | inl k ↦ inr (subst P (nat_abs-neg_ℤ filed.put.lit ∙ filed.of_var) (any_from kept (neg_ℤ filed.put.lit) k))
-            | inr k ↦ (let here : is_marked marks filed.put.lit ≡ true = ap (λ n. get_or marks n false) filed.of_var ∙ old in
-                let few : count_by (is_open t.level marks) t.puts ≤ 1 = omega arith in
-                let same = count_one (is_open t.level marks) t.puts place filed.place point.put filed.put few point.stands filed.stands (open_from t.level marks point.put point.marked point.at_level) (open_from t.level marks filed.put here k) in
-                let puts_are = same_at t.puts place filed.place point.put filed.put point.stands filed.stands same in
-                inl (ap (λ (q : Put). nat_abs q.lit) puts_are ∙ filed.of_var))
+            | inl k ↦ inr (subst P (nat_abs-neg_ℤ filed.assignment.lit ∙ filed.of_var) (any_from kept (neg_ℤ filed.assignment.lit) k))
+            | inr k ↦ (let here : is_marked marks filed.assignment.lit ≡ true = ap (λ n. get_or marks n false) filed.of_var ∙ old in
+                let few : count_by (is_open t.level marks) t.assignments ≤ 1 = omega arith in
+                let same = count_one (is_open t.level marks) t.assignments place filed.place first_uip.assignment filed.assignment few first_uip.stands filed.stands (open_from t.level marks first_uip.assignment first_uip.marked first_uip.at_level) (open_from t.level marks filed.assignment here k) in
+                let assignments_are = same_at t.assignments place filed.place first_uip.assignment filed.assignment first_uip.stands filed.stands same in
+                inl (ap (λ (q : Assignment). nat_abs q.lit) assignments_are ∙ filed.of_var))
           ]
         ]
 
 -- ---- a conflict at level 0
 
-pub conflict_in_range : (t : TrailState) (marks : List Bool) (conflict : List ℤ) → IsTrail t → length marks ≡ t.vars + 1 → IsRefutedIn (lits t.puts) conflict → All (λ l. nat_abs l < length marks) conflict
+pub conflict_in_range : (t : TrailState) (marks : List Bool) (conflict : List ℤ) → IsTrail t → length marks ≡ t.vars + 1 → IsFalsifiedIn (lits t.assignments) conflict → All (λ l. nat_abs l < length marks) conflict
 conflict_in_range t marks conflict h room false_now k d lt =
     let l = get_or conflict k d in
     false_in_range t marks l h room (false_now l (has_at conflict k l d lt refl)).1
@@ -142,29 +141,32 @@ pub conflict_marked : (before marks : List Bool) (conflict : List ℤ) → ((v :
 conflict_marked before marks conflict each l inside =
     each (nat_abs l) ∙ or_right (get_or before (nat_abs l) false) (list_any (eqb (nat_abs l)) (map nat_abs conflict)) (any_from conflict l inside)
 
-pub none_marked_at_root : (t : TrailState) (before marks after : List Bool) (conflict : List ℤ) → IsTrail t → t.level ≡ 0 → ((v : ℕ) → get_or before v false ≡ false) → ((v : ℕ) → get_or marks v false ≡ with_marks conflict before v) → IsRefutedIn (lits t.puts) conflict → AreRootsClear t.puts after 0 → DifferAtRoots t.puts marks after → (v : ℕ) → get_or after v false ≡ false
+pub none_marked_at_root : (t : TrailState) (before marks after : List Bool) (conflict : List ℤ) → IsTrail t → t.level ≡ 0 → ((v : ℕ) → get_or before v false ≡ false) → ((v : ℕ) → get_or marks v false ≡ with_marks conflict before v) → IsFalsifiedIn (lits t.assignments) conflict → AreRootsClear t.assignments after 0 → DifferAtRoots t.assignments marks after → (v : ℕ) → get_or after v false ≡ false
 none_marked_at_root t before marks after conflict h root none each false_now clear differ v =
     elim (differ v) [
       | inl same ↦ same ∙ false_from_ne_true (get_or marks v false) (λ e.
           elim (or_cases (get_or before v false) (list_any (eqb v) (map nat_abs conflict)) (sym (each v) ∙ e)) [
             | inl f ↦ both_ways (get_or before v false) (none v) f
             | inr f ↦ (let found = any_var v conflict f in
-                let put = put_there t.puts (neg_ℤ found.0) (false_now found.0 found.1).1 in
-                let high = level_to 0 t.puts t.level put.0 put.1 h.climbs put.2 in
-                let of_var : nat_abs put.1.lit ≡ v = ap nat_abs put.3 ∙ nat_abs-neg_ℤ found.0 ∙ found.2 in
-                both_ways (get_or after v false) (ap (λ n. get_or after n false) (sym of_var) ∙ clear put.0 put.1 put.2 (omega arith) (omega arith)) (same ∙ e))
+                let assignment = assignment_there t.assignments (neg_ℤ found.0) (false_now found.0 found.1).1 in
+                let high = level_to 0 t.assignments t.level assignment.0 assignment.1 h.climbs assignment.2 in
+                let of_var : nat_abs assignment.1.lit ≡ v = ap nat_abs assignment.3 ∙ nat_abs-neg_ℤ found.0 ∙ found.2 in
+                both_ways (get_or after v false) (ap (λ n. get_or after n false) (sym of_var) ∙ clear assignment.0 assignment.1 assignment.2 (omega arith) (omega arith)) (same ∙ e))
           ])
-      | inr r ↦ ap (λ n. get_or after n false) (sym r.of_var) ∙ clear r.place r.put r.stands r.root (omega arith)
+      | inr r ↦ ap (λ n. get_or after n false) (sym r.of_var) ∙ clear r.place r.assignment r.stands r.root (omega arith)
     ]
 
 -- ---- hints
 
-pub conflict_refutes : (t : TrailState) (live : List (ℕ × List ℤ)) (conflict : List ℤ) (id : ℕ) (hint : ℤ) (marks : List Bool) (hints : List ℤ) → IsTrail t → IsRefutedIn (lits t.puts) conflict → IsCalled live id conflict → hint ≡ pos id → hints ≡ [] ++ hint ∷ [] → ((l : ℤ) → has conflict l ≡ true → is_marked marks l ≡ true) → Refutes live (lits t.puts) marks (reverse hints)
-conflict_refutes t live conflict id hint marks hints h false_now called hint_is hints_are marked =
+pub conflict_refutes : (t : TrailState) (live : List (ℕ × List ℤ)) (conflict : List ℤ) (id : ℕ) (hint : ℤ) (marks : List Bool) (hints : List ℤ) → IsTrail t → IsFalsifiedIn (lits t.assignments) conflict → HasId live id conflict → hint ≡ pos id → hints ≡ [] ++ hint ∷ [] → ((l : ℤ) → has conflict l ≡ true → is_marked marks l ≡ true) → Refutes live (lits t.assignments) marks (reverse hints)
+conflict_refutes t live conflict id hint marks hints h false_now has_id hint_is hints_are marked =
     let turned : reverse hints ≡ pos id ∷ [] = ap reverse hints_are ∙ ap (λ x. x ∷ []) hint_is in
-    let P : List ℤ → Type 0 = λ hs. Refutes live (lits t.puts) marks hs in
-    subst P (sym turned) (refutes_conflict t live conflict id marks h false_now called marked)
+    let P : List ℤ → Type 0 = λ hs. Refutes live (lits t.assignments) marks hs in
+    subst P (sym turned) (refutes_conflict t live conflict id marks h false_now has_id marked)
 
 -- where nothing is marked the hints end with nothing assumed
-pub refutes_nothing : (t : TrailState) (live : List (ℕ × List ℤ)) (marks : List Bool) (hints : List ℤ) → ((v : ℕ) → get_or marks v false ≡ false) → Refutes live (lits t.puts) marks hints → Ends live [] hints
-refutes_nothing t live marks hints none refutes = refutes [] (λ l true_l marked. absurd (both_ways (is_marked marks l) (none (nat_abs l)) marked)) (λ l k. cc)
+pub refutes_nothing : (t : TrailState) (live : List (ℕ × List ℤ)) (marks : List Bool) (hints : List ℤ) → ((v : ℕ) → get_or marks v false ≡ false) → Refutes live (lits t.assignments) marks hints → Follows live [] hints
+refutes_nothing t live marks hints none refutes = record {
+  ends = refutes.ends [] (λ l true_l marked. absurd (both_ways (is_marked marks l) (none (nat_abs l)) marked)) (λ l k. cc);
+  live_hints = refutes.live_hints;
+}

@@ -1,5 +1,5 @@
 pub mod Explaining
-pub mod Lesson
+pub mod Learned
 pub mod Reasons
 pub mod Resolving
 pub mod Tracking

@@ -1,96 +1,101 @@
 -- Resolution, where marks on the variables stand for the clause: its literals are the negations of the trail's marked ones.
 use Rattle.std.specs.Prelude.{◌≡◌, ◌≢◌, ℕ, ◌+◌, ◌<◌, ◌≤◌, ◌^◌, IsTrue, IsFalse, Bool, false, ◌||◌, nat_eq, ℤ, pos, neg_ℤ, nat_abs, Some, IsSome, List, [], length, map, reverse, take, slice_get, slice_index_or, All, ◌⊎◌}
-use Rattle.std.specs.List.{list_any}
-use Rattle.cnf_base.specs.Judged.{has}
+use Rattle.std.specs.List.{list_any, AllByRecursion}
+use Rattle.cnf_base.specs.Status.{has}
 use Rattle.lrat_text.specs.Standing.{clause_at}
 use Rattle.lrat_text.specs.Accepted.{Ends}
-use Rattle.sat_trail.specs.Trail.{Put, TrailState, IsTrail, lits}
-use Rattle.sat_learn.specs.Reasons.{AreReasons, AreCalled}
+use Rattle.sat_trail.specs.Trail.{Assignment, TrailState, IsTrail, lits}
+use Rattle.sat_learn.specs.Reasons.{AreReasons, HaveIds, IsLiveHint}
 
 -- whether a literal's variable is marked
 abbrev pub is_marked : List Bool → ℤ → Bool
 is_marked marks l = slice_index_or marks (nat_abs l) false
 
--- a put stands at a place of a trail
-abbrev pub StandsAt : List Put → ℕ → Put → Type 0
-StandsAt puts place p = slice_get puts place ≡ Some p
+-- an assignment stands at a place of a trail
+abbrev pub StandsAt : List Assignment → ℕ → Assignment → Type 0
+StandsAt assignments place p = slice_get assignments place ≡ Some p
 
 -- ---- hints
 
 -- the hints end under any literals of the trail among which each marked one is
-abbrev pub Refutes : List (ℕ × List ℤ) → List ℤ → List Bool → List ℤ → Type 0
-Refutes live true_lits marks hints = (assumed : List ℤ)
+abbrev pub EndsUnder : List (ℕ × List ℤ) → List ℤ → List Bool → List ℤ → Type 0
+EndsUnder live true_lits marks hints = (assumed : List ℤ)
     → ((l : ℤ) → IsTrue (has true_lits l) → IsTrue (is_marked marks l) → IsTrue (has assumed l))
     → ((l : ℤ) → IsTrue (has assumed l) → IsTrue (has true_lits l))
     → Ends live assumed hints
 
+-- and each of them names a clause that lives in the proof
+pub record Refutes (live : List (ℕ × List ℤ)) (true_lits : List ℤ) (marks : List Bool) (hints : List ℤ) : Type 0 where
+  pub live_hints : AllByRecursion (IsLiveHint live) hints
+  pub ends : EndsUnder live true_lits marks hints
+
 -- where the hints that were found did so with the marks of then, these do with the marks of now; the last found comes first
-abbrev pub Resolves : List (List ℤ) → List ℕ → List Put → List Bool → List ℤ → List Bool → List ℤ → Type 0
-Resolves clauses names puts old_marks old_hints marks hints = (live : List (ℕ × List ℤ)) → AreCalled live clauses names puts
-    → Refutes live (lits puts) old_marks (reverse old_hints) → Refutes live (lits puts) marks (reverse hints)
+abbrev pub Resolves : List (List ℤ) → List ℕ → List Assignment → List Bool → List ℤ → List Bool → List ℤ → Type 0
+Resolves clauses proof_ids assignments old_marks old_hints marks hints = (live : List (ℕ × List ℤ)) → HaveIds live clauses proof_ids assignments
+    → Refutes live (lits assignments) old_marks (reverse old_hints) → Refutes live (lits assignments) marks (reverse hints)
 
 -- ---- what resolution goes by
 
 -- a trail whose literals have reasons among the clauses, which have small ids
-pub record IsExplained (clauses : List (List ℤ)) (names : List ℕ) (t : TrailState) : Type 0 where
+pub record IsExplained (clauses : List (List ℤ)) (proof_ids : List ℕ) (t : TrailState) : Type 0 where
   pub trail : IsTrail t
-  pub few : length t.puts ≤ t.vars
-  pub reasons : AreReasons clauses [] t.puts
-  pub one_each : length names ≡ length clauses
-  pub small : All (λ name. name < 2 ^ 62) names
+  pub few : length t.assignments ≤ t.vars
+  pub reasons : AreReasons clauses [] t.assignments
+  pub one_each : length proof_ids ≡ length clauses
+  pub small : All (λ name. name < 2 ^ 62) proof_ids
 
 -- the literal at a place isn't a decision
-pub record IsForcedAt (puts : List Put) (place : ℕ) : Type 0 where
-  pub put : Put
-  pub stands : StandsAt puts place put
-  pub forced : IsSome put.reason
+pub record IsForcedAt (assignments : List Assignment) (place : ℕ) : Type 0 where
+  pub assignment : Assignment
+  pub stands : StandsAt assignments place assignment
+  pub forced : IsSome assignment.reason
 
 -- the clause that a literal was put for, by its literals, which are false before it, and its hint
-pub record IsAntecedent (clauses : List (List ℤ)) (names : List ℕ) (puts : List Put) (place : ℕ) (p : Put) (antecedent : List ℤ) (hint : ℤ) : Type 0 where
-  pub false_before : (m : ℤ) → IsTrue (has antecedent m) → m ≢ p.lit → IsTrue (has (lits (take place puts)) (neg_ℤ m))
-  pub called : (live : List (ℕ × List ℤ)) → AreCalled live clauses names puts
+pub record IsAntecedent (clauses : List (List ℤ)) (proof_ids : List ℕ) (assignments : List Assignment) (place : ℕ) (p : Assignment) (antecedent : List ℤ) (hint : ℤ) : Type 0 where
+  pub false_before : (m : ℤ) → IsTrue (has antecedent m) → m ≢ p.lit → IsTrue (has (lits (take place assignments)) (neg_ℤ m))
+  pub has_id : (live : List (ℕ × List ℤ)) → HaveIds live clauses proof_ids assignments
       → (id : ℕ) × (hint ≡ pos id) × (clause : List ℤ) × (clause_at live id ≡ Some clause)
       × IsTrue (has clause p.lit) × ((m : ℤ) → IsTrue (has clause m) → m ≢ p.lit → IsTrue (has antecedent m))
 
 -- ---- places
 
 -- each marked literal stands before a place
-abbrev pub AreBelow : List Put → List Bool → ℕ → Type 0
-AreBelow puts marks place = (i : ℕ) (p : Put) → StandsAt puts i p → IsTrue (is_marked marks p.lit) → i < place
+abbrev pub AreBelow : List Assignment → List Bool → ℕ → Type 0
+AreBelow assignments marks place = (i : ℕ) (p : Assignment) → StandsAt assignments i p → IsTrue (is_marked marks p.lit) → i < place
 
 -- the literal at a place is the last marked one, and of the present level
 pub record IsLastMarked (t : TrailState) (marks : List Bool) (place : ℕ) : Type 0 where
-  pub put : Put
-  pub stands : StandsAt t.puts place put
-  pub marked : IsTrue (is_marked marks put.lit)
-  pub at_level : put.level ≡ t.level
-  pub below : AreBelow t.puts marks (place + 1)
+  pub assignment : Assignment
+  pub stands : StandsAt t.assignments place assignment
+  pub marked : IsTrue (is_marked marks assignment.lit)
+  pub at_level : assignment.level ≡ t.level
+  pub below : AreBelow t.assignments marks (place + 1)
 
--- a literal is false by a put of this level
-pub record IsFalseAt (puts : List Put) (l : ℤ) (level : ℕ) : Type 0 where
-  pub put : Put
+-- a literal is false by an assignment of this level
+pub record IsFalseAt (assignments : List Assignment) (l : ℤ) (level : ℕ) : Type 0 where
+  pub assignment : Assignment
   pub place : ℕ
-  pub stands : StandsAt puts place put
-  pub negated : put.lit ≡ neg_ℤ l
-  pub at_level : put.level ≡ level
+  pub stands : StandsAt assignments place assignment
+  pub negated : assignment.lit ≡ neg_ℤ l
+  pub at_level : assignment.level ≡ level
 
 -- ---- level 0
 
 -- a variable has a literal of level 0
-pub record IsRooted (puts : List Put) (var : ℕ) : Type 0 where
-  pub put : Put
+pub record IsRooted (assignments : List Assignment) (var : ℕ) : Type 0 where
+  pub assignment : Assignment
   pub place : ℕ
-  pub stands : StandsAt puts place put
-  pub root : put.level ≡ 0
-  pub of_var : nat_abs put.lit ≡ var
+  pub stands : StandsAt assignments place assignment
+  pub root : assignment.level ≡ 0
+  pub of_var : nat_abs assignment.lit ≡ var
 
 -- no variable of level 0 is marked from this place on
-abbrev pub AreRootsClear : List Put → List Bool → ℕ → Type 0
-AreRootsClear puts marks place = (i : ℕ) (p : Put) → StandsAt puts i p → p.level ≡ 0 → place ≤ i → IsFalse (is_marked marks p.lit)
+abbrev pub AreRootsClear : List Assignment → List Bool → ℕ → Type 0
+AreRootsClear assignments marks place = (i : ℕ) (p : Assignment) → StandsAt assignments i p → p.level ≡ 0 → place ≤ i → IsFalse (is_marked marks p.lit)
 
 -- marks differ at variables of level 0 alone
-abbrev pub DifferAtRoots : List Put → List Bool → List Bool → Type 0
-DifferAtRoots puts old new = (v : ℕ) → (slice_index_or new v false ≡ slice_index_or old v false) ⊎ IsRooted puts v
+abbrev pub DifferAtRoots : List Assignment → List Bool → List Bool → Type 0
+DifferAtRoots assignments old new = (v : ℕ) → (slice_index_or new v false ≡ slice_index_or old v false) ⊎ IsRooted assignments v
 
 -- ---- marks
 

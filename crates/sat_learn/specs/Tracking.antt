@@ -1,32 +1,32 @@
 -- What is known of the marks while a conflict is resolved down to the first unique implication point.
 use Rattle.std.specs.Prelude.{◌≡◌, ℕ, ◌+◌, ◌<◌, ◌≤◌, IsTrue, Bool, false, ◌&&◌, nat_eq, ℤ, neg_ℤ, nat_abs, List, ◌∷◌, if◌then◌else◌, length, map, count_by, slice_index_or, ◌⊎◌}
 use Rattle.std.specs.List.{IsDistinct, list_any}
-use Rattle.cnf_base.specs.Judged.{has}
-use Rattle.sat_trail.specs.Trail.{Put, TrailState}
+use Rattle.cnf_base.specs.Status.{has}
+use Rattle.sat_trail.specs.Trail.{Assignment, TrailState}
 use Rattle.sat_learn.specs.Resolving.{is_marked, StandsAt, IsFalseAt}
 
--- whether a put is marked and of this level
-abbrev pub is_open : ℕ → List Bool → Put → Bool
+-- whether an assignment is marked and of this level
+abbrev pub is_open : ℕ → List Bool → Assignment → Bool
 is_open level marks p = is_marked marks p.lit && nat_eq p.level level
 
 -- a marked variable is assigned: at level 0, at the present level, or its false literal is kept
 pub record IsFiled (t : TrailState) (kept : List ℤ) (rooted : Bool) (var : ℕ) : Type 0 where
-  pub put : Put
+  pub assignment : Assignment
   pub place : ℕ
-  pub stands : StandsAt t.puts place put
-  pub of_var : nat_abs put.lit ≡ var
-  pub filed : (IsTrue rooted × (put.level ≡ 0)) ⊎ (IsTrue (has kept (neg_ℤ put.lit)) ⊎ (put.level ≡ t.level))
+  pub stands : StandsAt t.assignments place assignment
+  pub of_var : nat_abs assignment.lit ≡ var
+  pub filed : (IsTrue rooted × (assignment.level ≡ 0)) ⊎ (IsTrue (has kept (neg_ℤ assignment.lit)) ⊎ (assignment.level ≡ t.level))
 
 -- a literal is false at a level between 0 and the present one
 pub record IsBetween (t : TrailState) (l : ℤ) : Type 0 where
   pub level : ℕ
-  pub false_at : IsFalseAt t.puts l level
+  pub false_at : IsFalseAt t.assignments l level
   pub above_root : 0 < level
   pub below_present : level < t.level
 
 -- a literal is marked, or false at a level below the present one
 abbrev pub IsEarlier : TrailState → List Bool → ℤ → Type 0
-IsEarlier t marks l = IsTrue (is_marked marks l) ⊎ ((level : ℕ) × IsFalseAt t.puts l level × (level < t.level))
+IsEarlier t marks l = IsTrue (is_marked marks l) ⊎ ((level : ℕ) × IsFalseAt t.assignments l level × (level < t.level))
 
 -- the marked variables, the literals that are or were kept, whether one of level 0 is marked, and how many of the present
 -- level are
@@ -35,26 +35,26 @@ pub record IsTracked (t : TrailState) (marks : List Bool) (kept : List ℤ) (roo
   pub room : length marks ≡ t.vars + 1
   pub filed : (v : ℕ) → IsTrue (slice_index_or marks v false) → IsFiled t kept rooted v
   pub between : (l : ℤ) → IsTrue (has kept l) → IsBetween t l
-  pub number : open_count ≡ count_by (is_open t.level marks) t.puts
+  pub number : open_count ≡ count_by (is_open t.level marks) t.assignments
 
 -- a level that no kept literal is above, and that one has where it isn't 0
 pub record IsGreatestLevel (t : TrailState) (kept : List ℤ) (level : ℕ) : Type 0 where
-  pub covers : (l : ℤ) → IsTrue (has kept l) → (low : ℕ) × (low ≤ level) × IsFalseAt t.puts l low
-  pub reached : (level ≡ 0) ⊎ ((l : ℤ) × IsTrue (has kept l) × IsFalseAt t.puts l level)
+  pub covers : (l : ℤ) → IsTrue (has kept l) → (low : ℕ) × (low ≤ level) × IsFalseAt t.assignments l low
+  pub reached : (level ≡ 0) ⊎ ((l : ℤ) × IsTrue (has kept l) × IsFalseAt t.assignments l level)
 
 -- the literal at a place is marked and of the present level
-pub record IsPoint (t : TrailState) (marks : List Bool) (place : ℕ) : Type 0 where
-  pub put : Put
-  pub stands : StandsAt t.puts place put
-  pub marked : IsTrue (is_marked marks put.lit)
-  pub at_level : put.level ≡ t.level
+pub record IsFirstUip (t : TrailState) (marks : List Bool) (place : ℕ) : Type 0 where
+  pub assignment : Assignment
+  pub stands : StandsAt t.assignments place assignment
+  pub marked : IsTrue (is_marked marks assignment.lit)
+  pub at_level : assignment.level ≡ t.level
 
 -- it is the one of the present level, and beside it some of those that were kept are marked
-pub record IsReduced (t : TrailState) (marks : List Bool) (kept : List ℤ) (place : ℕ) : Type 0 where
+pub record IsMinimized (t : TrailState) (marks : List Bool) (kept : List ℤ) (place : ℕ) : Type 0 where
   pub above : 0 < t.level
   pub room : length marks ≡ t.vars + 1
-  pub point : IsPoint t marks place
-  pub marked : (v : ℕ) → IsTrue (slice_index_or marks v false) → (nat_abs point.put.lit ≡ v) ⊎ IsTrue (list_any (nat_eq v) (map nat_abs kept))
+  pub first_uip : IsFirstUip t marks place
+  pub marked : (v : ℕ) → IsTrue (slice_index_or marks v false) → (nat_abs first_uip.assignment.lit ≡ v) ⊎ IsTrue (list_any (nat_eq v) (map nat_abs kept))
   pub between : (l : ℤ) → IsTrue (has kept l) → IsBetween t l
 
 -- the first literal and those of the kept ones that are marked, each variable once; they aren't marked any more

@@ -1,7 +1,7 @@
 //! What is kept while a conflict is resolved.
 
 ghost use Rattle.std.specs.Prelude.{◌≡◌, ℤ, ℕ, ◌+◌, ◌<◌, ◌≤◌, ◌⊎◌, IsTrue, true, false, neg_ℤ, nat_abs, [], length, slice_set, slice_index_or, OnOk};
-ghost use Rattle.cnf_base.specs.Judged.{has};
+ghost use Rattle.cnf_base.specs.Status.{has};
 ghost use Rattle.sat_trail.specs.Trail.{lits, IsTrail};
 ghost use Rattle.sat_learn.specs.Resolving.{is_marked, IsFalseAt, with_marks};
 ghost use Rattle.sat_learn.specs.Tracking.{IsEarlier, IsTracked};
@@ -38,8 +38,8 @@ pub fn new_analysis(alloc: Global) -> Analysis
 /// The level of a literal that is false.
 pub fn level_of_false(trail: &Trail, lit: CnfLit) -> u32
     requires trail { IsTrail trail.now }
-    requires false_now { IsTrue (has (lits trail.now.puts) (neg_ℤ lit)) }
-    ensures { IsFalseAt trail.now.puts lit result }
+    requires false_now { IsTrue (has (lits trail.now.assignments) (neg_ℤ lit)) }
+    ensures { IsFalseAt trail.now.assignments lit result }
 {
     match trail.level_of(lit.var()) {
         Some(level) => level,
@@ -55,10 +55,10 @@ fn note(
     lit: CnfLit,
 ) -> Result<(), OutOfMemory>
     requires trail { IsTrail trail.now }
-    requires few { length trail.now.puts ≤ trail.now.vars }
+    requires few { length trail.now.assignments ≤ trail.now.vars }
     requires tracked { IsTracked trail.now marks.old analysis.old.kept.items analysis.old.rooted analysis.old.open_count }
     requires in_range { nat_abs lit < length marks.old }
-    requires false_now { IsTrue (is_marked marks.old lit) ⊎ IsTrue (has (lits trail.now.puts) (neg_ℤ lit)) }
+    requires false_now { IsTrue (is_marked marks.old lit) ⊎ IsTrue (has (lits trail.now.assignments) (neg_ℤ lit)) }
     ensures tracked { OnOk result (IsTracked trail.now marks.new analysis.new.kept.items analysis.new.rooted analysis.new.open_count) }
     ensures marks { marks.new ≡ slice_set marks.old (nat_abs lit) true }
     ensures hints { analysis.new.hints ≡ analysis.old.hints }
@@ -89,9 +89,9 @@ pub fn note_all(
     clause: &[CnfLit],
 ) -> Result<(), OutOfMemory>
     requires trail { IsTrail trail.now }
-    requires few { length trail.now.puts ≤ trail.now.vars }
+    requires few { length trail.now.assignments ≤ trail.now.vars }
     requires tracked { IsTracked trail.now marks.old analysis.old.kept.items analysis.old.rooted analysis.old.open_count }
-    requires false_now { (l : ℤ) → IsTrue (has clause.now l) → IsTrue (is_marked marks.old l) ⊎ IsTrue (has (lits trail.now.puts) (neg_ℤ l)) }
+    requires false_now { (l : ℤ) → IsTrue (has clause.now l) → IsTrue (is_marked marks.old l) ⊎ IsTrue (has (lits trail.now.assignments) (neg_ℤ l)) }
     ensures tracked { OnOk result (IsTracked trail.now marks.new analysis.new.kept.items analysis.new.rooted analysis.new.open_count) }
     ensures marks { OnOk result ((v : ℕ) → slice_index_or marks.new v false ≡ with_marks clause.now marks.old v) }
     ensures hints { analysis.new.hints ≡ analysis.old.hints }

@@ -1,7 +1,7 @@
 //! The clause that a literal was put for.
 
 ghost use Rattle.std.specs.Prelude.{◌≡◌, ℕ, ◌<◌, ◌≤◌, nat_abs, None, MatchOption, length};
-ghost use Rattle.sat_trail.specs.Trail.{Put};
+ghost use Rattle.sat_trail.specs.Trail.{Assignment};
 ghost use Rattle.sat_learn.specs.Resolving.{StandsAt, IsExplained, IsForcedAt, IsAntecedent};
 
 use cnf_base::CnfLit;
@@ -22,20 +22,20 @@ pub struct Antecedent<'a> {
 pub fn find_antecedent<'a>(
     trail: &Trail,
     book: &'a ClauseBook,
-    names: &[u64],
+    proof_ids: &[u64],
     var: u32,
 ) -> Option<Antecedent<'a>>
-    requires explained { IsExplained book.now.clauses names.now trail.now }
+    requires explained { IsExplained book.now.clauses proof_ids.now trail.now }
     requires not_zero { 0 < var }
     requires in_range { var ≤ trail.now.vars }
-    ensures { (place : ℕ) (p : Put) → StandsAt trail.now.puts place p → nat_abs p.lit ≡ var
+    ensures { (place : ℕ) (p : Assignment) → StandsAt trail.now.assignments place p → nat_abs p.lit ≡ var
         → MatchOption result (p.reason ≡ None)
-        (λ found. IsAntecedent book.now.clauses names.now trail.now.puts place p found.lits.now found.hint) }
+        (λ found. IsAntecedent book.now.clauses proof_ids.now trail.now.assignments place p found.lits.now found.hint) }
 {
     match trail.reason_of(var) {
         Some(ClauseId::Book(at)) => Some(Antecedent {
             lits: book.clause(ClauseId::Book(at)).as_slice(),
-            hint: names[at as usize] as i64,
+            hint: proof_ids[at as usize] as i64,
         }),
         Some(ClauseId::Unit(id)) => Some(Antecedent {
             lits: &[],
@@ -49,15 +49,15 @@ pub fn find_antecedent<'a>(
 pub fn antecedent_of<'a>(
     trail: &Trail,
     book: &'a ClauseBook,
-    names: &[u64],
+    proof_ids: &[u64],
     place: u32,
 ) -> Antecedent<'a>
-    requires explained { IsExplained book.now.clauses names.now trail.now }
-    requires forced { IsForcedAt trail.now.puts place }
-    ensures { (p : Put) → StandsAt trail.now.puts place p
-        → IsAntecedent book.now.clauses names.now trail.now.puts place p result.lits.now result.hint }
+    requires explained { IsExplained book.now.clauses proof_ids.now trail.now }
+    requires forced { IsForcedAt trail.now.assignments place }
+    ensures { (p : Assignment) → StandsAt trail.now.assignments place p
+        → IsAntecedent book.now.clauses proof_ids.now trail.now.assignments place p result.lits.now result.hint }
 {
-    match find_antecedent(trail, book, names, trail.at(place).var()) {
+    match find_antecedent(trail, book, proof_ids, trail.at(place).var()) {
         Some(found) => found,
         None => unreachable!(),
     }

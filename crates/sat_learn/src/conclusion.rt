@@ -1,31 +1,24 @@
-//! The lesson from what is marked in the end.
+//! The learned clause from what is marked in the end.
 
 ghost use Rattle.std.specs.Prelude.{◌≡◌, ℕ, ℤ, List, ◌≤◌, ◌<◌, IsTrue, All, false, neg_ℤ, nat_abs, length, map, reverse, IsPermutation, slice_index_or, IfOk, OnOk};
-ghost use Rattle.cnf_base.specs.Judged.{has};
-ghost use Rattle.lrat_text.specs.Accepted.{Ends};
+ghost use Rattle.cnf_base.specs.Status.{has};
 ghost use Rattle.sat_trail.specs.Trail.{lits, IsTrail};
-ghost use Rattle.sat_learn.specs.Lesson.{AreAtRoot, IsLesson};
+ghost use Rattle.sat_learn.specs.Learned.{AreAtRoot, IsLearned};
+ghost use Rattle.sat_learn.specs.Reasons.{Follows};
 ghost use Rattle.sat_learn.specs.Resolving.{Refutes};
-ghost use Rattle.sat_learn.specs.Tracking.{IsGreatestLevel, IsReduced, IsTaken};
+ghost use Rattle.sat_learn.specs.Tracking.{IsGreatestLevel, IsMinimized, IsTaken};
 
 use crate::analysis::{Analysis, level_of_false};
-use crate::lesson::{Lesson, new_lesson};
+use crate::learned_clause::{LearnedClause, new_learned};
 use cnf_base::CnfLit;
 use ketch_base::OutOfMemory;
 use sat_trail::Trail;
 use std::alloc::Global;
 
-fn negated(lit: CnfLit) -> CnfLit
-    requires { nat_abs lit ≤ 4000000 }
-    ensures { result ≡ neg_ℤ lit }
-{
-    CnfLit::new(-lit.value())
-}
-
 /// The greatest level of these literals, or 0.
 fn greatest_level(trail: &Trail, kept: &[CnfLit]) -> u32
     requires trail { IsTrail trail.now }
-    requires false_now { (l : ℤ) → IsTrue (has kept.now l) → IsTrue (has (lits trail.now.puts) (neg_ℤ l)) }
+    requires false_now { (l : ℤ) → IsTrue (has kept.now l) → IsTrue (has (lits trail.now.assignments) (neg_ℤ l)) }
     ensures { IsGreatestLevel trail.now kept.now result }
 {
     let mut greatest = 0;
@@ -78,7 +71,7 @@ fn take_marked(
     Ok(taken)
 }
 
-/// The lesson where the literal at this place and some of the kept ones are marked. Unmarks all.
+/// The learned clause where the literal at this place and some of the kept ones are marked. Unmarks all.
 pub fn conclude(
     alloc: Global,
     trail: &Trail,
@@ -86,14 +79,14 @@ pub fn conclude(
     analysis: Analysis,
     roots: Vec<u32>,
     place: u32,
-) -> Result<Lesson, OutOfMemory>
+) -> Result<LearnedClause, OutOfMemory>
     requires trail { IsTrail trail.now }
-    requires reduced { IsReduced trail.now marks.old analysis.kept.items place }
-    requires roots { AreAtRoot trail.now.puts roots.items }
-    ensures lesson { IfOk result (IsLesson trail.now) }
+    requires minimized { IsMinimized trail.now marks.old analysis.kept.items place }
+    requires roots { AreAtRoot trail.now.assignments roots.items }
+    ensures learned { IfOk result (IsLearned trail.now) }
     ensures marks { OnOk result ((v : ℕ) → slice_index_or marks.new v false ≡ false) }
-    ensures follows { IfOk result (λ lesson. (live : List (ℕ × List ℤ)) → Refutes live (lits trail.now.puts) marks.old (reverse analysis.hints.items)
-        → Ends live (map neg_ℤ lesson.lits) lesson.hints) }
+    ensures follows { IfOk result (λ learned. (live : List (ℕ × List ℤ)) → Refutes live (lits trail.now.assignments) marks.old (reverse analysis.hints.items)
+        → Follows live (map neg_ℤ learned.lits) learned.hints) }
 {
     let Analysis {
         mut kept,
@@ -102,8 +95,8 @@ pub fn conclude(
         open_count: _,
     } = analysis;
     sort_by_level(trail, &mut kept);
-    let first = negated(trail.at(place));
+    let first = trail.at(place).negation();
     let taken = take_marked(alloc, marks, &kept, first)?;
-    let back = greatest_level(trail, &taken[1..]);
-    Ok(new_lesson(taken, back, hints, roots))
+    let backjump_level = greatest_level(trail, &taken[1..]);
+    Ok(new_learned(taken, backjump_level, hints, roots))
 }

@@ -1,7 +1,7 @@
 //! The hints of one literal of level 0, found by a walk down its reasons.
 
 ghost use Rattle.std.specs.Prelude.{◌≡◌, ℕ, ℤ, [], ◌∷◌, ◌+◌, ◌<◌, IsTrue, true, false, neg_ℤ, nat_abs, length, slice_set, slice_index_or, IfOk, IfSome, OnOk, ◌⊎◌};
-ghost use Rattle.cnf_base.specs.Judged.{has};
+ghost use Rattle.cnf_base.specs.Status.{has};
 ghost use Rattle.sat_trail.specs.Trail.{lits, upto};
 ghost use Rattle.sat_learn.specs.Explaining.{IsExplanation, IsFound, IsNoted};
 ghost use Rattle.sat_learn.specs.Resolving.{is_marked, IsExplained};
@@ -50,18 +50,18 @@ fn mark(marks: &mut [bool], derivation: &mut Derivation, lit: CnfLit) -> Result<
 fn derive(
     trail: &Trail,
     book: &ClauseBook,
-    names: &[u64],
+    proof_ids: &[u64],
     marks: &mut [bool],
     derivation: &mut Derivation,
     lit: CnfLit,
     depth: u32,
 ) -> Result<bool, OutOfMemory>
-    requires explained { IsExplained book.now.clauses names.now trail.now }
+    requires explained { IsExplained book.now.clauses proof_ids.now trail.now }
     requires room { length marks.old ≡ trail.now.vars + 1 }
     requires noted { IsNoted marks.old derivation.old.marked.items }
-    requires known { IsTrue (is_marked marks.old lit) ⊎ IsTrue (has (lits trail.now.puts) (neg_ℤ lit)) }
+    requires known { IsTrue (is_marked marks.old lit) ⊎ IsTrue (has (lits trail.now.assignments) (neg_ℤ lit)) }
     ensures noted { OnOk result (IsNoted marks.new derivation.new.marked.items) }
-    ensures found { OnOk result (IsFound book.now.clauses names.now trail.now.puts (lit ∷ []) marks.old derivation.old.hints.items marks.new derivation.new.hints.items) }
+    ensures found { OnOk result (IsFound book.now.clauses proof_ids.now trail.now.assignments (lit ∷ []) marks.old derivation.old.hints.items marks.new derivation.new.hints.items) }
     ensures marked { IfOk result (λ whole. IsTrue whole → IsTrue (is_marked marks.new lit)) }
 {
     if marks[lit.var() as usize] {
@@ -70,12 +70,12 @@ fn derive(
     if depth == 0 {
         return Ok(false);
     }
-    let Some(found) = find_antecedent(trail, book, names, lit.var()) else {
+    let Some(found) = find_antecedent(trail, book, proof_ids, lit.var()) else {
         return Ok(false);
     };
     for other in found.lits {
         if other.var() != lit.var() {
-            let whole = derive(trail, book, names, marks, derivation, *other, depth - 1)?;
+            let whole = derive(trail, book, proof_ids, marks, derivation, *other, depth - 1)?;
             if !whole {
                 return Ok(false);
             }
@@ -90,21 +90,21 @@ fn derive(
 fn derive_all(
     trail: &Trail,
     book: &ClauseBook,
-    names: &[u64],
+    proof_ids: &[u64],
     marks: &mut [bool],
     derivation: &mut Derivation,
     clause: &[CnfLit],
 ) -> Result<bool, OutOfMemory>
-    requires explained { IsExplained book.now.clauses names.now trail.now }
+    requires explained { IsExplained book.now.clauses proof_ids.now trail.now }
     requires room { length marks.old ≡ trail.now.vars + 1 }
     requires noted { IsNoted marks.old derivation.old.marked.items }
-    requires known { (l : ℤ) → IsTrue (has clause.now l) → IsTrue (is_marked marks.old l) ⊎ IsTrue (has (lits trail.now.puts) (neg_ℤ l)) }
+    requires known { (l : ℤ) → IsTrue (has clause.now l) → IsTrue (is_marked marks.old l) ⊎ IsTrue (has (lits trail.now.assignments) (neg_ℤ l)) }
     ensures noted { OnOk result (IsNoted marks.new derivation.new.marked.items) }
-    ensures found { OnOk result (IsFound book.now.clauses names.now trail.now.puts clause.now marks.old derivation.old.hints.items marks.new derivation.new.hints.items) }
+    ensures found { OnOk result (IsFound book.now.clauses proof_ids.now trail.now.assignments clause.now marks.old derivation.old.hints.items marks.new derivation.new.hints.items) }
     ensures marked { IfOk result (λ whole. IsTrue whole → (l : ℤ) → IsTrue (has clause.now l) → IsTrue (is_marked marks.new l)) }
 {
     for lit in clause {
-        let whole = derive(trail, book, names, marks, derivation, *lit, DEPTH)?;
+        let whole = derive(trail, book, proof_ids, marks, derivation, *lit, DEPTH)?;
         if !whole {
             return Ok(false);
         }
@@ -116,22 +116,22 @@ fn derive_all(
 fn derive_at(
     trail: &Trail,
     book: &ClauseBook,
-    names: &[u64],
+    proof_ids: &[u64],
     marks: &mut [bool],
     derivation: &mut Derivation,
     place: u32,
 ) -> Result<bool, OutOfMemory>
-    requires explained { IsExplained book.now.clauses names.now trail.now }
+    requires explained { IsExplained book.now.clauses proof_ids.now trail.now }
     requires room { length marks.old ≡ trail.now.vars + 1 }
     requires unmarked { (v : ℕ) → slice_index_or marks.old v false ≡ false }
     requires new { (derivation.old.hints.items ≡ []) × (derivation.old.marked.items ≡ []) }
-    requires at_root { place < length (upto 0 trail.now.puts) }
+    requires at_root { place < length (upto 0 trail.now.assignments) }
     ensures noted { OnOk result (IsNoted marks.new derivation.new.marked.items) }
-    ensures follows { IfOk result (λ whole. IsTrue whole → IsExplanation book.now.clauses names.now trail.now.puts place derivation.new.hints.items) }
+    ensures follows { IfOk result (λ whole. IsTrue whole → IsExplanation book.now.clauses proof_ids.now trail.now.assignments place derivation.new.hints.items) }
 {
-    let own = antecedent_of(trail, book, names, place);
+    let own = antecedent_of(trail, book, proof_ids, place);
     mark(marks, derivation, trail.at(place))?;
-    let whole = derive_all(trail, book, names, marks, derivation, own.lits)?;
+    let whole = derive_all(trail, book, proof_ids, marks, derivation, own.lits)?;
     derivation.hints.push(own.hint)?;
     Ok(whole)
 }
@@ -142,19 +142,19 @@ pub fn explain_marked(
     alloc: Global,
     trail: &Trail,
     book: &ClauseBook,
-    names: &[u64],
+    proof_ids: &[u64],
     marks: &mut [bool],
     place: u32,
 ) -> Result<Option<Hints>, OutOfMemory>
-    requires explained { IsExplained book.now.clauses names.now trail.now }
+    requires explained { IsExplained book.now.clauses proof_ids.now trail.now }
     requires room { length marks.old ≡ trail.now.vars + 1 }
     requires unmarked { (v : ℕ) → slice_index_or marks.old v false ≡ false }
-    requires at_root { place < length (upto 0 trail.now.puts) }
+    requires at_root { place < length (upto 0 trail.now.assignments) }
     ensures unmarked { OnOk result ((v : ℕ) → slice_index_or marks.new v false ≡ false) }
-    ensures follows { IfOk result (λ found. IfSome found (IsExplanation book.now.clauses names.now trail.now.puts place)) }
+    ensures follows { IfOk result (λ found. IfSome found (IsExplanation book.now.clauses proof_ids.now trail.now.assignments place)) }
 {
     let mut derivation = new_derivation(alloc);
-    let whole = derive_at(trail, book, names, marks, &mut derivation, place)?;
+    let whole = derive_at(trail, book, proof_ids, marks, &mut derivation, place)?;
     unmark_all(marks, &derivation.marked);
     if !whole {
         return Ok(None);

@@ -1,19 +1,17 @@
-//! What a conflict teaches: a new clause, with the hints by which a checker follows it.
+//! Conflict analysis: a learned clause, with the hints by which a checker follows it.
 #![tactic(auto)]
 
 mod analysis;
+mod analyzer;
 mod antecedent;
 mod conclusion;
 mod explanation;
-mod learner;
-mod lesson;
+mod first_uip;
+mod learned_clause;
 mod marks;
-mod point;
-mod reduction;
+mod minimize;
 mod resolution;
 mod roots;
-#[cfg(test)]
-mod tests;
 
-pub use learner::Learner;
-pub use lesson::Lesson;
+pub use analyzer::Analyzer;
+pub use learned_clause::LearnedClause;

@@ -33,9 +33,9 @@ pub fn unmark_all(marks: &mut [bool], lits: &[CnfLit])
 pub fn last_marked(trail: &Trail, marks: &[bool], place: u32) -> u32
     requires trail { IsTrail trail.now }
     requires room { length marks.now ≡ trail.now.vars + 1 }
-    requires in_range { place ≤ length trail.now.puts }
-    requires below { AreBelow trail.now.puts marks.now place }
-    requires some { 0 < count_by (is_open trail.now.level marks.now) trail.now.puts }
+    requires in_range { place ≤ length trail.now.assignments }
+    requires below { AreBelow trail.now.assignments marks.now place }
+    requires some { 0 < count_by (is_open trail.now.level marks.now) trail.now.assignments }
     ensures before { result < place }
     ensures last { IsLastMarked trail.now marks.now result }
 {

@@ -1,20 +1,19 @@
 //! A conflict resolved, from the clause that is false to what follows.
 
 ghost use Rattle.std.specs.Prelude.{◌≡◌, ℕ, ℤ, List, ◌+◌, ◌-◌, ◌<◌, false, neg_ℤ, map, length, pos, [], slice_index_or, IfOk, OnOk};
-ghost use Rattle.cnf_base.specs.Judged.{IsRefutedIn};
-ghost use Rattle.lrat_text.specs.Accepted.{Ends};
+ghost use Rattle.cnf_base.specs.Status.{IsFalsifiedIn};
 ghost use Rattle.sat_trail.specs.Trail.{lits, upto};
-ghost use Rattle.sat_learn.specs.Reasons.{IsCalled, AreCalled};
-ghost use Rattle.sat_learn.specs.Lesson.{AreAtRoot, IsLesson};
+ghost use Rattle.sat_learn.specs.Reasons.{HasId, HaveIds, Follows};
+ghost use Rattle.sat_learn.specs.Learned.{AreAtRoot, IsLearned};
 ghost use Rattle.sat_learn.specs.Resolving.{Resolves, IsExplained, AreRootsClear, DifferAtRoots};
 ghost use Rattle.sat_learn.specs.Tracking.{IsTracked};
 
 use crate::analysis::{Analysis, new_analysis, note_all};
 use crate::conclusion::conclude;
-use crate::lesson::{Lesson, in_order};
+use crate::first_uip::resolve;
+use crate::learned_clause::{LearnedClause, in_order};
 use crate::marks::mark_all;
-use crate::point::resolve_present;
-use crate::reduction::{Visit, reduce};
+use crate::minimize::{Visit, minimize_clause};
 use crate::roots::resolve_roots;
 use cnf_base::CnfLit;
 use ketch_base::OutOfMemory;
@@ -28,57 +27,57 @@ fn resolve_any_roots(
     alloc: Global,
     trail: &Trail,
     book: &ClauseBook,
-    names: &[u64],
+    proof_ids: &[u64],
     marks: &mut [bool],
     analysis: &mut Analysis,
 ) -> Result<Vec<u32>, OutOfMemory>
-    requires explained { IsExplained book.now.clauses names.now trail.now }
+    requires explained { IsExplained book.now.clauses proof_ids.now trail.now }
     requires above { 0 < trail.now.level }
     requires tracked { IsTracked trail.now marks.old analysis.old.kept.items analysis.old.rooted analysis.old.open_count }
-    ensures clear { OnOk result (AreRootsClear trail.now.puts marks.new 0) }
-    ensures others { OnOk result (DifferAtRoots trail.now.puts marks.old marks.new) }
+    ensures clear { OnOk result (AreRootsClear trail.now.assignments marks.new 0) }
+    ensures others { OnOk result (DifferAtRoots trail.now.assignments marks.old marks.new) }
     ensures kept { analysis.new.kept ≡ analysis.old.kept }
-    ensures resolves { OnOk result (Resolves book.now.clauses names.now trail.now.puts marks.old analysis.old.hints.items marks.new analysis.new.hints.items) }
-    ensures roots { IfOk result (λ roots. AreAtRoot trail.now.puts roots.items) }
+    ensures resolves { OnOk result (Resolves book.now.clauses proof_ids.now trail.now.assignments marks.old analysis.old.hints.items marks.new analysis.new.hints.items) }
+    ensures roots { IfOk result (λ roots. AreAtRoot trail.now.assignments roots.items) }
 {
     if !analysis.rooted {
         return Ok(Vec::new(alloc));
     }
-    let roots = resolve_roots(alloc, trail, book, names, marks, &mut analysis.hints)?;
+    let roots = resolve_roots(alloc, trail, book, proof_ids, marks, &mut analysis.hints)?;
     Ok(roots)
 }
 
-/// The lesson of a conflict above level 0, where no variable is marked before or after.
-pub fn analyze(
+/// The learned clause of a conflict above level 0, where no variable is marked before or after.
+pub fn resolve_conflict(
     alloc: Global,
     trail: &Trail,
     book: &ClauseBook,
-    names: &[u64],
+    proof_ids: &[u64],
     marks: &mut [bool],
     visits: &mut [Visit],
     conflict: &[CnfLit],
     hint: i64,
-) -> Result<Lesson, OutOfMemory>
-    requires explained { IsExplained book.now.clauses names.now trail.now }
+) -> Result<LearnedClause, OutOfMemory>
+    requires explained { IsExplained book.now.clauses proof_ids.now trail.now }
     requires above { 0 < trail.now.level }
     requires room { length marks.old ≡ trail.now.vars + 1 }
     requires room_too { length visits.old ≡ trail.now.vars + 1 }
     requires unmarked { (v : ℕ) → slice_index_or marks.old v false ≡ false }
-    requires false_now { IsRefutedIn (lits trail.now.puts) conflict.now }
-    requires not_before { ¬ IsRefutedIn (lits (upto (trail.now.level - 1) trail.now.puts)) conflict.now }
+    requires false_now { IsFalsifiedIn (lits trail.now.assignments) conflict.now }
+    requires not_before { ¬ IsFalsifiedIn (lits (upto (trail.now.level - 1) trail.now.assignments)) conflict.now }
     ensures unmarked { OnOk result ((v : ℕ) → slice_index_or marks.new v false ≡ false) }
-    ensures lesson { IfOk result (IsLesson trail.now) }
-    ensures follows { IfOk result (λ lesson. (live : List (ℕ × List ℤ)) (id : ℕ) → hint ≡ pos id → AreCalled live book.now.clauses names.now trail.now.puts
-        → IsCalled live id conflict.now → Ends live (map neg_ℤ lesson.lits) lesson.hints) }
+    ensures learned { IfOk result (IsLearned trail.now) }
+    ensures follows { IfOk result (λ learned. (live : List (ℕ × List ℤ)) (id : ℕ) → hint ≡ pos id → HaveIds live book.now.clauses proof_ids.now trail.now.assignments
+        → HasId live id conflict.now → Follows live (map neg_ℤ learned.lits) learned.hints) }
 {
     let mut analysis = new_analysis(alloc);
     analysis.hints.push(hint)?;
     note_all(trail, marks, &mut analysis, conflict)?;
-    let place = resolve_present(trail, book, names, marks, &mut analysis)?;
-    reduce(alloc, trail, book, names, marks, visits, &mut analysis)?;
-    let roots = resolve_any_roots(alloc, trail, book, names, marks, &mut analysis)?;
-    let lesson = conclude(alloc, trail, marks, analysis, roots, place)?;
-    Ok(lesson)
+    let place = resolve(trail, book, proof_ids, marks, &mut analysis)?;
+    minimize_clause(alloc, trail, book, proof_ids, marks, visits, &mut analysis)?;
+    let roots = resolve_any_roots(alloc, trail, book, proof_ids, marks, &mut analysis)?;
+    let learned = conclude(alloc, trail, marks, analysis, roots, place)?;
+    Ok(learned)
 }
 
 /// The hints by which the empty clause follows at level 0, where no variable is marked before or after.
@@ -86,23 +85,23 @@ pub fn refute_marked(
     alloc: Global,
     trail: &Trail,
     book: &ClauseBook,
-    names: &[u64],
+    proof_ids: &[u64],
     marks: &mut [bool],
     conflict: &[CnfLit],
     hint: i64,
 ) -> Result<Hints, OutOfMemory>
-    requires explained { IsExplained book.now.clauses names.now trail.now }
+    requires explained { IsExplained book.now.clauses proof_ids.now trail.now }
     requires at_root { trail.now.level ≡ 0 }
     requires room { length marks.old ≡ trail.now.vars + 1 }
     requires unmarked { (v : ℕ) → slice_index_or marks.old v false ≡ false }
-    requires false_now { IsRefutedIn (lits trail.now.puts) conflict.now }
+    requires false_now { IsFalsifiedIn (lits trail.now.assignments) conflict.now }
     ensures unmarked { OnOk result ((v : ℕ) → slice_index_or marks.new v false ≡ false) }
-    ensures follows { IfOk result (λ hints. (live : List (ℕ × List ℤ)) (id : ℕ) → hint ≡ pos id → AreCalled live book.now.clauses names.now trail.now.puts
-        → IsCalled live id conflict.now → Ends live [] hints) }
+    ensures follows { IfOk result (λ hints. (live : List (ℕ × List ℤ)) (id : ℕ) → hint ≡ pos id → HaveIds live book.now.clauses proof_ids.now trail.now.assignments
+        → HasId live id conflict.now → Follows live [] hints) }
 {
     let mut hints = Vec::new(alloc);
     hints.push(hint)?;
     mark_all(marks, conflict);
-    resolve_roots(alloc, trail, book, names, marks, &mut hints)?;
+    resolve_roots(alloc, trail, book, proof_ids, marks, &mut hints)?;
     Ok(in_order(hints))
 }

@@ -1,8 +1,8 @@
 //! Literals of level 0, which are resolved away.
 
 ghost use Rattle.std.specs.Prelude.{◌≡◌, ◌+◌, ◌<◌, length, IfOk, OnOk};
-ghost use Rattle.sat_trail.specs.Trail.{Put};
-ghost use Rattle.sat_learn.specs.Lesson.{AreAtRoot};
+ghost use Rattle.sat_trail.specs.Trail.{Assignment};
+ghost use Rattle.sat_learn.specs.Learned.{AreAtRoot};
 ghost use Rattle.sat_learn.specs.Resolving.{StandsAt, Resolves, IsExplained, AreRootsClear, DifferAtRoots};
 
 use crate::antecedent::antecedent_of;
@@ -16,20 +16,20 @@ use std::alloc::Global;
 fn resolve_root(
     trail: &Trail,
     book: &ClauseBook,
-    names: &[u64],
+    proof_ids: &[u64],
     marks: &mut [bool],
     hints: &mut Vec<i64>,
     place: u32,
 ) -> Result<(), OutOfMemory>
-    requires explained { IsExplained book.now.clauses names.now trail.now }
+    requires explained { IsExplained book.now.clauses proof_ids.now trail.now }
     requires room { length marks.old ≡ trail.now.vars + 1 }
-    requires root { (p : Put) × StandsAt trail.now.puts place p × (p.level ≡ 0) }
-    requires clear { AreRootsClear trail.now.puts marks.old (place + 1) }
-    ensures clear { OnOk result (AreRootsClear trail.now.puts marks.new place) }
-    ensures others { OnOk result (DifferAtRoots trail.now.puts marks.old marks.new) }
-    ensures resolves { OnOk result (Resolves book.now.clauses names.now trail.now.puts marks.old hints.old.items marks.new hints.new.items) }
+    requires root { (p : Assignment) × StandsAt trail.now.assignments place p × (p.level ≡ 0) }
+    requires clear { AreRootsClear trail.now.assignments marks.old (place + 1) }
+    ensures clear { OnOk result (AreRootsClear trail.now.assignments marks.new place) }
+    ensures others { OnOk result (DifferAtRoots trail.now.assignments marks.old marks.new) }
+    ensures resolves { OnOk result (Resolves book.now.clauses proof_ids.now trail.now.assignments marks.old hints.old.items marks.new hints.new.items) }
 {
-    let found = antecedent_of(trail, book, names, place);
+    let found = antecedent_of(trail, book, proof_ids, place);
     hints.push(found.hint)?;
     mark_all(marks, found.lits);
     marks[trail.at(place).var() as usize] = false;
@@ -41,16 +41,16 @@ pub fn resolve_roots(
     alloc: Global,
     trail: &Trail,
     book: &ClauseBook,
-    names: &[u64],
+    proof_ids: &[u64],
     marks: &mut [bool],
     hints: &mut Vec<i64>,
 ) -> Result<Vec<u32>, OutOfMemory>
-    requires explained { IsExplained book.now.clauses names.now trail.now }
+    requires explained { IsExplained book.now.clauses proof_ids.now trail.now }
     requires room { length marks.old ≡ trail.now.vars + 1 }
-    ensures clear { OnOk result (AreRootsClear trail.now.puts marks.new 0) }
-    ensures others { OnOk result (DifferAtRoots trail.now.puts marks.old marks.new) }
-    ensures resolves { OnOk result (Resolves book.now.clauses names.now trail.now.puts marks.old hints.old.items marks.new hints.new.items) }
-    ensures roots { IfOk result (λ roots. AreAtRoot trail.now.puts roots.items) }
+    ensures clear { OnOk result (AreRootsClear trail.now.assignments marks.new 0) }
+    ensures others { OnOk result (DifferAtRoots trail.now.assignments marks.old marks.new) }
+    ensures resolves { OnOk result (Resolves book.now.clauses proof_ids.now trail.now.assignments marks.old hints.old.items marks.new hints.new.items) }
+    ensures roots { IfOk result (λ roots. AreAtRoot trail.now.assignments roots.items) }
 {
     let mut roots = Vec::new(alloc);
     let mut place = trail.len_upto(0);
@@ -58,7 +58,7 @@ pub fn resolve_roots(
         place -= 1;
         if marks[trail.at(place).var() as usize] {
             roots.push(place)?;
-            resolve_root(trail, book, names, marks, hints, place)?;
+            resolve_root(trail, book, proof_ids, marks, hints, place)?;
         }
     }
     Ok(roots)

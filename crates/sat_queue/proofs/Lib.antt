@@ -1,4 +1,4 @@
-pub mod Leading
-pub mod Apart
-pub mod Ringing
-pub mod Seeking
+pub mod LinkPaths
+pub mod Distinctness
+pub mod Ring
+pub mod Search

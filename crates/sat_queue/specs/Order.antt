@@ -1,7 +1,7 @@
 -- The order in which variables are taken: a list of all of them.
 use Rattle.std.specs.Prelude.{ℕ, ◌<◌, ◌≤◌, Bool, cond, not, nat_eq, is_none, Option, None, List, [], ◌∷◌, length, filter, slice_get, All}
 use Rattle.std.specs.List.{IsDistinct}
-use Rattle.sat_trail.specs.Trail.{Put, put_of}
+use Rattle.sat_trail.specs.Trail.{Assignment, assignment_of}
 
 -- the variables 1 up to as many as the list has, each once
 pub record IsOrder (vars : List ℕ) : Type 0 where
@@ -22,6 +22,6 @@ abbrev pub follower : ℕ → List ℕ → Option ℕ
 follower v [] = None
 follower v (x ∷ xs) = cond (nat_eq x v) (slice_get xs 0) (follower v xs)
 
--- whether nothing on a trail puts the variable there
-abbrev pub is_unassigned : List Put → ℕ → Bool
-is_unassigned puts v = is_none (put_of v puts)
+-- whether nothing on a trail assignments the variable there
+abbrev pub is_unassigned : List Assignment → ℕ → Bool
+is_unassigned assignments v = is_none (assignment_of v assignments)

@@ -1,9 +1,7 @@
-//! The order in which a solver takes variables.
+//! The order in which variables are decided.
 #![tactic(auto)]
 
 mod links;
 mod queue;
-#[cfg(test)]
-mod tests;
 
 pub use queue::VarQueue;

@@ -87,7 +87,7 @@ impl VarQueue {
     /// The first unassigned variable of the list: None exactly where all are assigned.
     pub fn next_unset(&self, trail: &Trail) -> Option<u32>
         requires { trail.now.vars ≡ length self.now }
-        ensures { result ≡ find (is_unassigned trail.now.puts) self.now }
+        ensures { result ≡ find (is_unassigned trail.now.assignments) self.now }
     {
         let first = self.next[0];
         if first == 0 {
@@ -102,7 +102,7 @@ impl VarQueue {
         requires not_zero { 0 < var }
         requires in_range { var ≤ length self.now }
         requires vars { trail.now.vars ≡ length self.now }
-        ensures { result ≡ find (is_unassigned trail.now.puts) (from_on var self.now) }
+        ensures { result ≡ find (is_unassigned trail.now.assignments) (from_on var self.now) }
     {
         let mut at = var;
         while at != 0 {

@@ -1,23 +1,16 @@
 -- What each answer of the solver says.
-use Rattle.std.specs.Prelude.{◌≡◌, ℕ, suc, ◌-◌, ◌≤◌, Bool, false, ℤ, List, [], ◌∷◌, length, slice_index_or}
-use Rattle.cnf_base.specs.Meaning.{CnfFormula, Satisfies}
+use Rattle.std.specs.Prelude.{ℕ, suc, ◌≤◌, ℤ, List, [], ◌∷◌}
+use Rattle.std.specs.List.{AllByRecursion}
+use Rattle.cnf_base.specs.Meaning.{CnfFormula, IsModel}
 use Rattle.lrat_text.specs.declared.proof.LratStep.{LratStep}
 use Rattle.lrat_text.specs.declared.proof.LratStep.TheVariants.{Add, Delete}
+use Rattle.lrat_text.specs.Text.{HasIdsAndHints}
 use Rattle.lrat_text.specs.Standing.{start}
 use Rattle.lrat_text.specs.Accepted.{Ends, Accepted}
 use Rattle.lrat_text.specs.Spent.{SpentOn, Earned}
 use Rattle.sat_solver.specs.declared.answer.Answer.{Answer}
 use Rattle.sat_solver.specs.declared.answer.Answer.TheVariants.{Sat, Unsat, Spent}
 use Rattle.sat_solver.specs.Ledger.{after_all}
-
--- the value of a variable, where the first one stands for variable 1
-abbrev pub value_of : List Bool → ℕ → Bool
-value_of bits x = slice_index_or bits (x - 1) false
-
--- a value for each variable, which make every clause true
-pub record IsModel (formula : CnfFormula) (bits : List Bool) : Type 0 where
-  pub number : length bits ≡ formula.vars
-  pub satisfies : Satisfies (value_of bits) formula.clauses
 
 -- how many clauses that aren't empty are added
 abbrev pub lemma_count : List LratStep → ℕ
@@ -30,12 +23,15 @@ lemma_count (Delete at ids ∷ steps) = lemma_count steps
 pub record IsRefutation (formula : CnfFormula) (lemmas : ℕ) (proof : List LratStep) : Type 0 where
   pub accepted : Accepted formula proof
   pub within : lemma_count proof ≤ lemmas
+  -- its text spells it again
+  pub written : AllByRecursion HasIdsAndHints proof
 
 -- a proof that spends the whole budget on lemmas that it earns, where unit propagation from the formula and the lemmas
 -- alone meets no false clause
 pub record IsSpending (formula : CnfFormula) (lemmas : ℕ) (proof : List LratStep) : Type 0 where
   pub spent : SpentOn formula lemmas proof
   pub earned : Earned formula proof
+  pub written : AllByRecursion HasIdsAndHints proof
   pub undecided : (hints : List ℤ) → ¬ Ends (after_all (start formula) proof).live [] hints
 
 abbrev pub IsAnswer : CnfFormula → ℕ → Answer → Type 0

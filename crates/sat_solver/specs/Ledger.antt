@@ -1,10 +1,11 @@
 -- The proof so far, and the clauses that it may use.
 use Rattle.std.specs.Prelude.{◌≡◌, ℕ, ℤ, List, [], ◌∷◌, ◌++◌, map, length}
-use Rattle.std.specs.List.{enumerate_from}
+use Rattle.std.specs.List.{enumerate_from, AllByRecursion}
 use Rattle.cnf_base.specs.Meaning.{CnfFormula}
 use Rattle.lrat_text.specs.declared.proof.LratStep.{LratStep}
 use Rattle.lrat_text.specs.declared.proof.LratStep.TheVariants.{Add, Delete}
 use Rattle.lrat_text.specs.Standing.{Standing, start, after}
+use Rattle.lrat_text.specs.Text.{HasIdsAndHints}
 use Rattle.lrat_text.specs.Spent.{SpentFrom, EarnedFrom}
 
 -- the clause that a step adds
@@ -29,4 +30,5 @@ after_all s (step ∷ steps) = after_all (after s step) steps
 pub record IsLedger (formula : CnfFormula) (steps : List LratStep) : Type 0 where
   pub spent : SpentFrom (start formula) formula.clauses steps
   pub earned : EarnedFrom formula.vars formula.clauses steps
+  pub written : AllByRecursion HasIdsAndHints steps
   pub stands : after_all (start formula) steps ≡ record { live = live formula steps; greatest = length (earlier formula steps) }

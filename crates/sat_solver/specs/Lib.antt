@@ -1,9 +1,9 @@
 pub mod Answer
 pub mod Deciding
-pub mod Keeping
+pub mod Attaching
 pub mod Ledger
 pub mod Loading
 pub mod Searching
 pub mod Sound
-pub mod Teaching
-pub mod Turning
+pub mod Learning
+pub mod Steps

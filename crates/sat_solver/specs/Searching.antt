@@ -1,4 +1,4 @@
--- What holds of a search at each turn.
+-- What holds of a search at each step.
 use Rattle.std.specs.Prelude.{◌≡◌, ◌<◌, ◌≤◌, ◌^◌, ℤ, List, length}
 use Rattle.cnf_base.specs.Meaning.{CnfFormula}
 use Rattle.sat_solver.specs.declared.search.Search.{Search}
@@ -9,10 +9,10 @@ use Rattle.sat_solver.specs.Sound.{IsSound}
 pub record IsSearch (formula : CnfFormula) (done : List (List ℤ)) (s : Search) : Type 0 where
   pub few_clauses : length formula.clauses < 2 ^ 60
   pub few_steps : length s.steps ≤ 2 ^ 60
-  pub few_lessons : s.lessons ≤ length s.steps
+  pub few_conflicts : s.conflicts ≤ length s.steps
   pub ledger : IsLedger formula s.steps
-  pub sound : IsSound formula.vars (live formula s.steps) done s.names.items s.book s.trail
+  pub sound : IsSound formula.vars (live formula s.steps) done s.proof_ids.items s.book s.trail
   pub queue_vars : length s.queue ≡ formula.vars
   pub phases_vars : s.phases ≡ formula.vars
-  pub weighed_vars : s.weighed ≡ formula.vars
-  pub learner_vars : s.learner ≡ formula.vars
+  pub considered_vars : s.considered ≡ formula.vars
+  pub analyzer_vars : s.analyzer ≡ formula.vars

@@ -1,9 +1,9 @@
 //! The last step of a proof.
 
 ghost use Rattle.std.specs.Prelude.{◌≡◌, ◌+◌, ◌<◌, ◌≤◌, ◌^◌, ℕ, ℤ, List, length, IfOk};
-ghost use Rattle.cnf_base.specs.Judged.{IsRefutedIn};
+ghost use Rattle.cnf_base.specs.Status.{IsFalsifiedIn};
 ghost use Rattle.sat_trail.specs.Trail.{lits};
-ghost use Rattle.sat_learn.specs.Reasons.{IsCalled};
+ghost use Rattle.sat_learn.specs.Reasons.{HasId};
 ghost use Rattle.sat_solver.specs.Answer.{IsRefutation};
 ghost use Rattle.sat_solver.specs.Ledger.{live};
 ghost use Rattle.sat_solver.specs.Searching.{IsSearch};
@@ -33,20 +33,20 @@ pub fn close(
 ) -> Result<Proof, OutOfMemory>
     requires search { (done : List (List ℤ)) × IsSearch formula.now done search }
     requires at_root { search.trail.level ≡ 0 }
-    requires false_now { IsRefutedIn (lits search.trail.puts) clause.now }
-    requires called { IsCalled (live formula.now search.steps) id clause.now }
+    requires false_now { IsFalsifiedIn (lits search.trail.assignments) clause.now }
+    requires has_id { HasId (live formula.now search.steps) id clause.now }
     requires small { id < 2 ^ 62 }
     ensures { IfOk result (λ proof. (lemmas : ℕ) → length search.steps ≤ lemmas → IsRefutation formula.now lemmas proof) }
 {
     let Search {
         trail,
         book,
-        names,
-        mut learner,
+        proof_ids,
+        mut analyzer,
         steps,
         ..
     } = search;
-    let hints = learner.refute(&trail, &book, names.as_slice(), clause, id)?;
+    let hints = analyzer.refute(&trail, &book, proof_ids.as_slice(), clause, id)?;
     let step = LratStep::Add {
         id: next_id(formula, &steps),
         lits: Clause::new(alloc),

@@ -1,20 +1,21 @@
 //! The solver: an assignment that satisfies a formula, a proof that there is none, or a proof that its budget is spent.
 #![tactic(auto)]
 
+mod analysis;
 mod answer;
+mod backjump;
 mod closing;
+mod considered;
 mod deciding;
-mod keeping;
 mod loading;
 mod model;
-mod naming;
 mod phases;
 mod plain;
+mod restart;
+mod root_lemmas;
 mod search;
 mod solving;
-mod teaching;
-mod turning;
-mod weighed;
+mod step;
 
 pub use answer::Answer;
 pub use solving::solve;

@@ -11,11 +11,11 @@ use sat_trail::{Trail, Value};
 
 /// Puts the literals of a clause on an empty trail, each once and above level 0. False where one stands there both ways.
 pub fn gather(scratch: &mut Trail, clause: &[CnfLit]) -> bool
-    requires empty { scratch.old.puts ≡ [] }
+    requires empty { scratch.old.assignments ≡ [] }
     requires in_range { IsWithin scratch.old.vars clause.now }
     ensures vars { scratch.new.vars ≡ scratch.old.vars }
-    ensures above { upto 0 scratch.new.puts ≡ [] }
-    ensures plain { IsTrue result → SameLiterals clause.now (lits scratch.new.puts) }
+    ensures above { upto 0 scratch.new.assignments ≡ [] }
+    ensures plain { IsTrue result → SameLiterals clause.now (lits scratch.new.assignments) }
     ensures both_ways { IsFalse result → IsBothWays clause.now }
 {
     for lit in clause {

@@ -2,33 +2,32 @@
 
 ghost use Rattle.std.specs.Prelude.{◌≡◌, ℤ, List, ◌<◌, ◌≤◌, ◌^◌, length, IfOk};
 ghost use Rattle.sat_solver.specs.Answer.{IsAnswer};
-ghost use Rattle.sat_solver.specs.Turning.{IsTurn, EndIs};
+ghost use Rattle.sat_solver.specs.Steps.{IsSearchState, OutcomeIs};
 
+use crate::analysis::proof_id_of;
 use crate::answer::Answer;
 use crate::closing::close;
 use crate::loading::load;
 use crate::model::values;
 use crate::search::Search;
-use crate::teaching::name_of;
-use crate::turning::{Turn, take_turn};
+use crate::step::{Outcome, take_step};
 use cnf_base::{Clause, Formula};
 use ketch_base::OutOfMemory;
 use std::alloc::Global;
 
-/// Takes turns until one ends the search.
-fn take_turns(
+/// Takes steps until one ends the search.
+fn take_steps(
     alloc: Global,
     formula: &Formula,
     search: &mut Search,
     lemmas: u64,
-) -> Result<Turn, OutOfMemory>
-    requires { IsTurn formula.now lemmas search.old }
-    ensures { IfOk result (EndIs formula.now lemmas search.new) }
+) -> Result<Outcome, OutOfMemory>
+    requires { IsSearchState formula.now lemmas search.old }
+    ensures { IfOk result (OutcomeIs formula.now lemmas search.new) }
 {
-    loop {
-        match take_turn(alloc, formula, search, lemmas)? {
-            Turn::GoOn => {}
-            end => return Ok(end),
+    'steps: loop {
+        if let Some(outcome) = take_step(alloc, formula, search, lemmas)? {
+            return Ok(outcome);
         }
     }
 }
@@ -39,24 +38,23 @@ fn answer(
     formula: &Formula,
     search: Search,
     lemmas: u64,
-    end: Turn,
+    outcome: Outcome,
 ) -> Result<Answer, OutOfMemory>
-    requires { EndIs formula.now lemmas search end }
+    requires { OutcomeIs formula.now lemmas search outcome }
     ensures { IfOk result (IsAnswer formula.now lemmas) }
 {
     let _ = lemmas;
-    match end {
-        Turn::GoOn => unreachable!(),
-        Turn::Satisfied => {
+    match outcome {
+        Outcome::Satisfied => {
             let _ = (search.trail.vars(), search.book.vars());
             Ok(Answer::Sat(values(alloc, &search.trail)?))
         }
-        Turn::Refuted(id) => {
-            let name = name_of(search.names.as_slice(), id);
+        Outcome::Refuted(id) => {
+            let name = proof_id_of(search.proof_ids.as_slice(), id);
             let clause = Clause::from_slice(alloc, search.book.clause(id).as_slice())?;
             Ok(Answer::Unsat(close(alloc, formula, search, &clause, name)?))
         }
-        Turn::Spent => {
+        Outcome::Spent => {
             let _ = (search.trail.vars(), search.book.vars());
             let Search { steps, .. } = search;
             Ok(Answer::Spent(steps))
@@ -77,14 +75,14 @@ pub fn solve(alloc: Global, formula: &Formula, lemmas: u64) -> Result<Answer, Ou
         formula,
         &mut search.trail,
         &mut search.book,
-        &mut search.names,
+        &mut search.proof_ids,
     )?;
     if let Some(place) = refuted {
         let clause = formula.clauses().get(place);
         let proof = close(alloc, formula, search, clause, place as u64 + 1)?;
         return Ok(Answer::Unsat(proof));
     }
-    let end = take_turns(alloc, formula, &mut search, lemmas)?;
-    let answer = answer(alloc, formula, search, lemmas, end)?;
+    let outcome = take_steps(alloc, formula, &mut search, lemmas)?;
+    let answer = answer(alloc, formula, search, lemmas, outcome)?;
     Ok(answer)
 }

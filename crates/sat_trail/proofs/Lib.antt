@@ -1,6 +1,6 @@
-pub mod Climbing
-pub mod Valuing
-pub mod Keeping
-pub mod Reading
-pub mod Resting
-pub mod Consistent
+pub mod Levels
+pub mod LiteralValues
+pub mod Representation
+pub mod Lookup
+pub mod Reasons
+pub mod Consistency

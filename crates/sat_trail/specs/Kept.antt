@@ -1,5 +1,6 @@
 -- How the trail is kept: the literals in order, the value of each literal, and for each variable what put it there.
-use Rattle.std.specs.Prelude.{◌≡◌, ℕ, ◌+◌, ◌*◌, ◌<◌, ◌≤◌, ℤ, pos, negsuc, nat_abs, Option, Some, None, List, length, map, take, slice_index, slice_index_or}
+use Rattle.std.specs.Prelude.{◌≡◌, ℕ, ◌+◌, ◌*◌, ◌<◌, ◌≤◌, ℤ, nat_abs, Option, Some, None, List, length, map, take, slice_index, slice_index_or}
+use Rattle.cnf_base.specs.Literal.{lit_index}
 use Rattle.sat_trail.specs.declared.clause_id.ClauseId.{ClauseId}
 use Rattle.sat_trail.specs.declared.clause_id.ClauseId.TheVariants as ids
 use Rattle.sat_trail.specs.declared.truth.Value.{Value}
@@ -7,7 +8,7 @@ use Rattle.sat_trail.specs.declared.truth.Value.TheVariants.{Unset}
 use Rattle.sat_trail.specs.declared.cause.Kind.{Kind}
 use Rattle.sat_trail.specs.declared.cause.Kind.TheVariants.{Decision, FromBook, FromUnit}
 use Rattle.sat_trail.specs.declared.cause.Cause.{Cause}
-use Rattle.sat_trail.specs.Trail.{Put, TrailState, lits, upto, value_in, IsTrail}
+use Rattle.sat_trail.specs.Trail.{Assignment, TrailState, lits, upto, value_in, IsTrail}
 
 abbrev pub reason_by : Kind → ℕ → Option ClauseId
 reason_by Decision number = None
@@ -21,22 +22,18 @@ reason_of_cause cause = reason_by cause.kind cause.number
 abbrev pub no_cause : Cause
 no_cause = record { number = 0; level = 0; kind = Decision }
 
-abbrev pub put_with : Cause → ℤ → Put
-put_with cause l = record { lit = l; level = cause.level; reason = reason_of_cause cause }
+abbrev pub assignment_with : Cause → ℤ → Assignment
+assignment_with cause l = record { lit = l; level = cause.level; reason = reason_of_cause cause }
 
-abbrev pub put_from : List Cause → ℤ → Put
-put_from causes l = put_with (slice_index_or causes (nat_abs l) no_cause) l
+abbrev pub assignment_from : List Cause → ℤ → Assignment
+assignment_from causes l = assignment_with (slice_index_or causes (nat_abs l) no_cause) l
 
 abbrev pub state_of : ℕ → ℕ → ℕ → ℕ → List Cause → List ℤ → TrailState
-state_of vars count level low causes all_lits = record { vars = vars; puts = map (put_from causes) (take count all_lits); level = level; low = low }
+state_of vars count level low causes all_lits = record { vars = vars; assignments = map (assignment_from causes) (take count all_lits); level = level; low = low }
 
--- the place of a literal's value: two places for each variable
-abbrev pub code : ℤ → ℕ
-code (pos n) = 2 * n
-code (negsuc n) = 2 * (n + 1) + 1
-
+-- the value that is kept for a literal
 abbrev pub kept_value : List Value → ℤ → Value
-kept_value values l = slice_index_or values (code l) Unset
+kept_value values l = slice_index_or values (lit_index l) Unset
 
 -- each literal's value is the one that it has where these literals are true
 abbrev pub AreValues : ℕ → List ℤ → List Value → Type 0
@@ -48,7 +45,7 @@ pub record IsKept (t : TrailState) (count : ℕ) (all_lits : List ℤ) (values :
   pub causes_room : length causes ≡ t.vars + 1
   pub ends_room : length ends ≡ t.vars
   pub number : count ≤ t.vars
-  pub values_agree : AreValues t.vars (lits t.puts) values
+  pub values_agree : AreValues t.vars (lits t.assignments) values
   -- each level below the present one ends there
-  pub ends_agree : (k : ℕ) → k < t.level → slice_index ends k ≡ length (upto k t.puts)
+  pub ends_agree : (k : ℕ) → k < t.level → slice_index ends k ≡ length (upto k t.assignments)
   pub trail : IsTrail t

@@ -4,8 +4,6 @@
 mod cause;
 mod clause_id;
 mod reason;
-#[cfg(test)]
-mod tests;
 mod trail;
 mod truth;
 mod values;

@@ -1,13 +1,13 @@
 //! The trail.
 
 ghost use Rattle.std.specs.Prelude.{◌≡◌, ◌+◌, ◌<◌, ◌≤◌, ◌++◌, ◌∷◌, [], min, length, nat_abs, slice_index, slice_index_or, option_map, option_and_then, Some, None, IsSome, map, IfOk, IsTrue, ◌↔◌};
-ghost use Rattle.sat_trail.specs.Trail.{Put, lits, levels, upto, value_in, put_of, resting, IsTrail};
+ghost use Rattle.sat_trail.specs.Trail.{Assignment, lits, levels, upto, value_in, assignment_of, with_reason, IsTrail};
 
 use crate::cause::Cause;
 use crate::clause_id::ClauseId;
 use crate::reason::{assumed, decided, reason};
 use crate::truth::Value;
-use crate::values::{between, code, set_values, unset_all};
+use crate::values::{between, set_values, unset_all};
 use cnf_base::CnfLit;
 use ketch_base::OutOfMemory;
 use std::alloc::Global;
@@ -43,7 +43,7 @@ impl Model for Trail {
 impl Trail {
     pub fn new(alloc: Global, vars: u32) -> Result<Trail, OutOfMemory>
         requires { vars ≤ 4000000 }
-        ensures { IfOk result (λ t. t ≡ record { vars = vars; puts = []; level = 0; low = 0 }) }
+        ensures { IfOk result (λ t. t ≡ record { vars = vars; assignments = []; level = 0; low = 0 }) }
     {
         let places = vars as usize;
         let none = decided(0);
@@ -74,9 +74,9 @@ impl Trail {
     /// Begins a level with this literal.
     pub fn decide(&mut self, lit: CnfLit)
         requires in_range { nat_abs lit ≤ self.old.vars }
-        requires unset { value_in (lits self.old.puts) lit ≡ Value.Unset }
+        requires unset { value_in (lits self.old.assignments) lit ≡ Value.Unset }
         ensures { let level = self.old.level + 1 in
-            self.new ≡ record self.old { puts = self.old.puts ++ record { lit = lit; level = level; reason = None } ∷ []; level = level } }
+            self.new ≡ record self.old { assignments = self.old.assignments ++ record { lit = lit; level = level; reason = None } ∷ []; level = level } }
     {
         let place = lit.var() as usize;
         self.ends[self.level as usize] = self.count;
@@ -90,8 +90,8 @@ impl Trail {
     /// Puts this literal at the present level, for a reason.
     pub fn assume(&mut self, lit: CnfLit, reason: ClauseId)
         requires in_range { nat_abs lit ≤ self.old.vars }
-        requires unset { value_in (lits self.old.puts) lit ≡ Value.Unset }
-        ensures { self.new ≡ record self.old { puts = self.old.puts ++ record { lit = lit; level = self.old.level; reason = Some reason } ∷ [] } }
+        requires unset { value_in (lits self.old.assignments) lit ≡ Value.Unset }
+        ensures { self.new ≡ record self.old { assignments = self.old.assignments ++ record { lit = lit; level = self.old.level; reason = Some reason } ∷ [] } }
     {
         let place = lit.var() as usize;
         self.causes[place] = assumed(self.level, reason);
@@ -101,11 +101,11 @@ impl Trail {
     }
 
     /// Gives an assigned literal that isn't a decision another reason.
-    pub fn rest_on(&mut self, var: u32, reason: ClauseId)
+    pub fn set_reason(&mut self, var: u32, reason: ClauseId)
         requires not_zero { 0 < var }
         requires in_range { var ≤ self.old.vars }
-        requires forced { (p : Put) × (put_of var self.old.puts ≡ Some p) × IsSome p.reason }
-        ensures { self.new ≡ record self.old { puts = map (resting var reason) self.old.puts } }
+        requires forced { (p : Assignment) × (assignment_of var self.old.assignments ≡ Some p) × IsSome p.reason }
+        ensures { self.new ≡ record self.old { assignments = map (with_reason var reason) self.old.assignments } }
     {
         let place = var as usize;
         let level = self.causes[place].level;
@@ -115,8 +115,8 @@ impl Trail {
     /// Takes off every literal above this level.
     pub fn back_to(&mut self, level: u32)
         requires { level ≤ self.old.level }
-        ensures { let puts = upto level self.old.puts in
-            self.new ≡ record self.old { puts = puts; level = level; low = min self.old.low (length puts) } }
+        ensures { let assignments = upto level self.old.assignments in
+            self.new ≡ record self.old { assignments = assignments; level = level; low = min self.old.low (length assignments) } }
     {
         if level < self.level {
             self.cut(level);
@@ -125,8 +125,8 @@ impl Trail {
 
     fn cut(&mut self, level: u32)
         requires { level < self.old.level }
-        ensures { let puts = upto level self.old.puts in
-            self.new ≡ record self.old { puts = puts; level = level; low = min self.old.low (length puts) } }
+        ensures { let assignments = upto level self.old.assignments in
+            self.new ≡ record self.old { assignments = assignments; level = level; low = min self.old.low (length assignments) } }
     {
         let end = self.ends[level as usize];
         unset_all(&mut self.values, between(&self.lits, end, self.count));
@@ -138,9 +138,9 @@ impl Trail {
     #[inline]
     pub fn value(&self, lit: CnfLit) -> Value
         requires { nat_abs lit ≤ self.now.vars }
-        ensures { result ≡ value_in (lits self.now.puts) lit }
+        ensures { result ≡ value_in (lits self.now.assignments) lit }
     {
-        self.values[code(lit)]
+        self.values[lit.index()]
     }
 
     /// None exactly where the variable is unassigned.
@@ -148,7 +148,7 @@ impl Trail {
     pub fn level_of(&self, var: u32) -> Option<u32>
         requires not_zero { 0 < var }
         requires in_range { var ≤ self.now.vars }
-        ensures { result ≡ option_map (λ p. p.level) (put_of var self.now.puts) }
+        ensures { result ≡ option_map (λ p. p.level) (assignment_of var self.now.assignments) }
     {
         match self.values[2 * var as usize] {
             Value::Unset => None,
@@ -161,7 +161,7 @@ impl Trail {
     pub fn reason_of(&self, var: u32) -> Option<ClauseId>
         requires not_zero { 0 < var }
         requires in_range { var ≤ self.now.vars }
-        ensures { result ≡ option_and_then (λ p. p.reason) (put_of var self.now.puts) }
+        ensures { result ≡ option_and_then (λ p. p.reason) (assignment_of var self.now.assignments) }
     {
         match self.values[2 * var as usize] {
             Value::Unset => None,
@@ -177,7 +177,7 @@ impl Trail {
 
     /// How many literals the trail holds.
     pub fn len(&self) -> u32
-        ensures value { result ≡ length self.now.puts }
+        ensures value { result ≡ length self.now.assignments }
         ensures at_most { result ≤ self.now.vars }
         ensures well_formed { IsTrail self.now }
     {
@@ -187,7 +187,7 @@ impl Trail {
     /// How many literals the trail holds up to this level.
     pub fn len_upto(&self, level: u32) -> u32
         requires { level ≤ self.now.level }
-        ensures { result ≡ length (upto level self.now.puts) }
+        ensures { result ≡ length (upto level self.now.assignments) }
     {
         if level < self.level {
             self.ends[level as usize]
@@ -197,14 +197,14 @@ impl Trail {
     }
 
     pub fn is_empty(&self) -> bool
-        ensures { IsTrue result ↔ (self.now.puts ≡ []) }
+        ensures { IsTrue result ↔ (self.now.assignments ≡ []) }
     {
         self.count == 0
     }
 
     /// In the order in which they were put.
     pub fn literals(&self) -> &[CnfLit]
-        ensures { result.now ≡ lits self.now.puts }
+        ensures { result.now ≡ lits self.now.assignments }
     {
         between(&self.lits, 0, self.count)
     }
@@ -212,16 +212,16 @@ impl Trail {
     /// The literals stand in the order in which they were put.
     #[inline]
     pub fn at(&self, place: u32) -> CnfLit
-        requires { place < length self.now.puts }
-        ensures { result ≡ slice_index_or (lits self.now.puts) place result }
+        requires { place < length self.now.assignments }
+        ensures { result ≡ slice_index_or (lits self.now.assignments) place result }
     {
         self.lits[place as usize]
     }
 
     /// The level of the literal at this place.
     pub fn level_at(&self, place: u32) -> u32
-        requires { place < length self.now.puts }
-        ensures { result ≡ slice_index (levels self.now.puts) place }
+        requires { place < length self.now.assignments }
+        ensures { result ≡ slice_index (levels self.now.assignments) place }
     {
         let lit = self.lits[place as usize];
         self.causes[lit.var() as usize].level
@@ -230,14 +230,14 @@ impl Trail {
     /// The least number of literals that the trail has held since the last `mark`, or else since it was made.
     pub fn low(&self) -> u32
         ensures value { result ≡ self.now.low }
-        ensures at_most { result ≤ length self.now.puts }
+        ensures at_most { result ≤ length self.now.assignments }
     {
         self.low
     }
 
     /// Makes `low` equal to `len`.
     pub fn mark(&mut self)
-        ensures { self.new ≡ record self.old { low = length self.old.puts } }
+        ensures { self.new ≡ record self.old { low = length self.old.assignments } }
     {
         self.low = self.count;
     }

@@ -2,19 +2,11 @@
 
 ghost use Rattle.std.specs.Prelude.{◌≡◌, ℕ, ℤ, ◌+◌, ◌*◌, ◌<◌, ◌≤◌, length, map, neg_ℤ, nat_abs, nat_eq, if◌then◌else◌, All, slice_range};
 ghost use Rattle.std.specs.List.{list_any};
-ghost use Rattle.cnf_base.specs.Judged.{same_lit};
-ghost use Rattle.sat_trail.specs.Kept.{code, kept_value};
+ghost use Rattle.cnf_base.specs.Status.{same_lit};
+ghost use Rattle.sat_trail.specs.Kept.{kept_value};
 
 use crate::truth::Value;
 use cnf_base::CnfLit;
-
-#[inline]
-pub fn code(lit: CnfLit) -> usize
-    ensures place { result ≡ code lit }
-    ensures one_of_two { (2 * nat_abs lit ≤ result) × (result ≤ 2 * nat_abs lit + 1) }
-{
-    2 * lit.var() as usize + usize::from(!lit.is_positive())
-}
 
 /// Sets a literal's value and that of its negation.
 pub fn set_values(values: &mut [Value], lit: CnfLit, value: Value, opposite: Value)
@@ -22,7 +14,7 @@ pub fn set_values(values: &mut [Value], lit: CnfLit, value: Value, opposite: Val
     ensures { (l : ℤ) → kept_value values.new l
         ≡ (if same_lit lit l then value else (if same_lit lit (neg_ℤ l) then opposite else kept_value values.old l)) }
 {
-    let place = code(lit);
+    let place = lit.index();
     let other = 4 * lit.var() as usize + 1 - place;
     values[place] = value;
     values[other] = opposite;

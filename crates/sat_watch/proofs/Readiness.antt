@@ -5,106 +5,106 @@ use Rattle.std.proofs.lemmas.Bool.{cases_lt, ne_eqb}
 use Rattle.std.proofs.lemmas.List.{take-append-le, take-take, take-map}
 use Rattle.std.proofs.lemmas.List.Elements.{All-nil, All-cons}
 use Rattle.cnf_base.specs.Dimacs.{IsLiteral}
-use Rattle.sat_trail.specs.Trail.{Put, TrailState, lits, upto, IsTrail}
-use Rattle.sat_trail.proofs.Climbing.{Climbs-upto, upto-all, upto-upto, upto-push_above, upto-take}
+use Rattle.sat_trail.specs.Trail.{Assignment, TrailState, lits, upto, IsTrail}
+use Rattle.sat_trail.proofs.Levels.{Climbs-upto, upto-all, upto-upto, upto-push_above, upto-take}
 use Rattle.sat_watch.specs.declared.scan.Scan.{Scan}
 use Rattle.sat_watch.specs.declared.scan.Scan.TheVariants.{Quiet}
-use Rattle.sat_watch.specs.Book.{BookState, IsBookClause, NoneFalse, NoneUnit, marks, Spreads, ScanIs}
+use Rattle.sat_watch.specs.Book.{BookState, IsBookClause, NoneFalse, NoneUnit, marks, ExtendsByUnits, ScanIs}
 use Rattle.sat_watch.specs.Ready.{IsFollowed, IsReady, IsSettled}
-use Rattle.sat_watch.proofs.Resting.{calm_nothing}
-use Rattle.sat_watch.proofs.Seeing.{length-marks, marks-append, upto_spread}
+use Rattle.sat_watch.proofs.Rests.{quiet_nothing}
+use Rattle.sat_watch.proofs.SeenTrail.{length-marks, marks-append, upto_extended}
 
 -- an empty trail makes no clause false or unit
-pub settled_empty : (b : BookState) (t : TrailState) → IsFollowed b t → All (IsBookClause b.vars) b.clauses → t.puts ≡ [] → IsSettled b t
+pub settled_empty : (b : BookState) (t : TrailState) → IsFollowed b t → All (IsBookClause b.vars) b.clauses → t.assignments ≡ [] → IsSettled b t
 settled_empty b t followed book none =
-    let P : List Put → Type 0 = λ ps. (k : ℕ) → NoneFalse b.clauses (lits (upto k ps)) in
-    let Q : List Put → Type 0 = λ ps. (k : ℕ) → NoneUnit b.clauses (lits (upto k ps)) in
+    let P : List Assignment → Type 0 = λ ps. (k : ℕ) → NoneFalse b.clauses (lits (upto k ps)) in
+    let Q : List Assignment → Type 0 = λ ps. (k : ℕ) → NoneUnit b.clauses (lits (upto k ps)) in
     record {
       followed = followed;
-      none_false = subst P (sym none) (λ k i d lt. (calm_nothing b.vars _ (book i d lt)).not_false);
-      none_unit = subst Q (sym none) (λ k i d lt. (calm_nothing b.vars _ (book i d lt)).not_unit);
+      none_false = subst P (sym none) (λ k i d lt. (quiet_nothing b.vars _ (book i d lt)).not_false);
+      none_unit = subst Q (sym none) (λ k i d lt. (quiet_nothing b.vars _ (book i d lt)).not_unit);
     }
 
 -- more literals at the end keep what was seen before `low`
-pub followed_more : (b : BookState) (t : TrailState) (more : List Put) (level : ℕ) → IsFollowed b t → t.low ≤ length t.puts → IsFollowed b (record { vars = t.vars; puts = t.puts ++ more; level = level; low = t.low })
+pub followed_more : (b : BookState) (t : TrailState) (more : List Assignment) (level : ℕ) → IsFollowed b t → t.low ≤ length t.assignments → IsFollowed b (record { vars = t.vars; assignments = t.assignments ++ more; level = level; low = t.low })
 followed_more b t more level h low =
-    let within : t.low ≤ length (marks t.puts) = omega (arith, length-marks t.puts) in
+    let within : t.low ≤ length (marks t.assignments) = omega (arith, length-marks t.assignments) in
     record {
       vars = h.vars;
-      agrees = ap (take t.low) (marks-append t.puts more) ∙ take-append-le t.low (marks t.puts) (marks more) within ∙ h.agrees;
+      agrees = ap (take t.low) (marks-append t.assignments more) ∙ take-append-le t.low (marks t.assignments) (marks more) within ∙ h.agrees;
     }
 
 -- a decision after Quiet
-pub ready_decide : (b : BookState) (t : TrailState) (p : Put) → IsSettled b t → IsTrail t → p.level ≡ t.level + 1 → IsReady b (record { vars = t.vars; puts = t.puts ++ p ∷ []; level = t.level + 1; low = t.low })
+pub ready_decide : (b : BookState) (t : TrailState) (p : Assignment) → IsSettled b t → IsTrail t → p.level ≡ t.level + 1 → IsReady b (record { vars = t.vars; assignments = t.assignments ++ p ∷ []; level = t.level + 1; low = t.low })
 ready_decide b t p h trail is =
     record {
       followed = followed_more b t (p ∷ []) (t.level + 1) h.followed trail.low_reached;
       none_false = λ k lt. (let above : k < p.level = omega arith in
-          let P : List Put → Type 0 = λ ps. NoneFalse b.clauses (lits ps) in
-          subst P (sym (upto-push_above k t.puts p above)) (h.none_false k));
+          let P : List Assignment → Type 0 = λ ps. NoneFalse b.clauses (lits ps) in
+          subst P (sym (upto-push_above k t.assignments p above)) (h.none_false k));
       none_unit = λ k lt. (let above : k < p.level = omega arith in
-          let P : List Put → Type 0 = λ ps. NoneUnit b.clauses (lits ps) in
-          subst P (sym (upto-push_above k t.puts p above)) (h.none_unit k));
+          let P : List Assignment → Type 0 = λ ps. NoneUnit b.clauses (lits ps) in
+          subst P (sym (upto-push_above k t.assignments p above)) (h.none_unit k));
     }
 
 -- after propagation the same holds below the present level, and after Quiet at every level
-pub ready_after : (b : BookState) (old new : TrailState) → IsReady b old → Spreads b.clauses old new → new.low ≡ length new.puts → IsReady (record { vars = b.vars; clauses = b.clauses; seen = marks new.puts }) new
+pub ready_after : (b : BookState) (old new : TrailState) → IsReady b old → ExtendsByUnits b.clauses old new → new.low ≡ length new.assignments → IsReady (record { vars = b.vars; clauses = b.clauses; seen = marks new.assignments }) new
 ready_after b old new h s low =
     record {
       followed = record { vars = s.vars ∙ h.followed.vars; agrees = refl };
       none_false = λ k lt. (let below : k < old.level = omega (arith, s.level) in
-          let P : List Put → Type 0 = λ ps. NoneFalse b.clauses (lits ps) in
-          subst P (sym (upto_spread b.clauses old new k s below)) (h.none_false k below));
+          let P : List Assignment → Type 0 = λ ps. NoneFalse b.clauses (lits ps) in
+          subst P (sym (upto_extended b.clauses old new k s below)) (h.none_false k below));
       none_unit = λ k lt. (let below : k < old.level = omega (arith, s.level) in
-          let P : List Put → Type 0 = λ ps. NoneUnit b.clauses (lits ps) in
-          subst P (sym (upto_spread b.clauses old new k s below)) (h.none_unit k below));
+          let P : List Assignment → Type 0 = λ ps. NoneUnit b.clauses (lits ps) in
+          subst P (sym (upto_extended b.clauses old new k s below)) (h.none_unit k below));
     }
 
-pub settled_quiet : (b : BookState) (t : TrailState) (scan : Scan) → IsReady b t → IsTrail t → ScanIs b.clauses (lits t.puts) scan → scan ≡ Quiet → IsSettled b t
+pub settled_quiet : (b : BookState) (t : TrailState) (scan : Scan) → IsReady b t → IsTrail t → ScanIs b.clauses (lits t.assignments) scan → scan ≡ Quiet → IsSettled b t
 settled_quiet b t scan h trail answer is =
-    let P : Scan → Type 0 = λ x. ScanIs b.clauses (lits t.puts) x in
-    let quiet : NoneFalse b.clauses (lits t.puts) × NoneUnit b.clauses (lits t.puts) = subst P is answer in
-    let F : List Put → Type 0 = λ ps. NoneFalse b.clauses (lits ps) in
-    let U : List Put → Type 0 = λ ps. NoneUnit b.clauses (lits ps) in
+    let P : Scan → Type 0 = λ x. ScanIs b.clauses (lits t.assignments) x in
+    let quiet : NoneFalse b.clauses (lits t.assignments) × NoneUnit b.clauses (lits t.assignments) = subst P is answer in
+    let F : List Assignment → Type 0 = λ ps. NoneFalse b.clauses (lits ps) in
+    let U : List Assignment → Type 0 = λ ps. NoneUnit b.clauses (lits ps) in
     record {
       followed = h.followed;
       none_false = λ k. elim (cases_lt k t.level) [
         | inl lt ↦ h.none_false k lt
-        | inr ge ↦ subst F (sym (upto-all k 0 t.puts t.level trail.climbs ge)) quiet.0
+        | inr ge ↦ subst F (sym (upto-all k 0 t.assignments t.level trail.climbs ge)) quiet.0
       ];
       none_unit = λ k. elim (cases_lt k t.level) [
         | inl lt ↦ h.none_unit k lt
-        | inr ge ↦ subst U (sym (upto-all k 0 t.puts t.level trail.climbs ge)) quiet.1
+        | inr ge ↦ subst U (sym (upto-all k 0 t.assignments t.level trail.climbs ge)) quiet.1
       ];
     }
 
 -- back below the present level
-pub settled_back : (b : BookState) (t : TrailState) (level : ℕ) → IsReady b t → IsTrail t → level < t.level → IsSettled b (record { vars = t.vars; puts = upto level t.puts; level = level; low = min t.low (length (upto level t.puts)) })
+pub settled_back : (b : BookState) (t : TrailState) (level : ℕ) → IsReady b t → IsTrail t → level < t.level → IsSettled b (record { vars = t.vars; assignments = upto level t.assignments; level = level; low = min t.low (length (upto level t.assignments)) })
 settled_back b t level h trail below =
-    let n = length (upto level t.puts) in
-    let first : upto level t.puts ≡ take n t.puts = upto-take level 0 t.puts t.level trail.climbs in
-    let marks_are : marks (upto level t.puts) ≡ take n (marks t.puts) = ap marks first ∙ sym (take-map _ n t.puts) in
+    let n = length (upto level t.assignments) in
+    let first : upto level t.assignments ≡ take n t.assignments = upto-take level 0 t.assignments t.level trail.climbs in
+    let marks_are : marks (upto level t.assignments) ≡ take n (marks t.assignments) = ap marks first ∙ sym (take-map _ n t.assignments) in
     let low = min t.low n in
-    let F : List Put → Type 0 = λ ps. NoneFalse b.clauses (lits ps) in
-    let U : List Put → Type 0 = λ ps. NoneUnit b.clauses (lits ps) in
+    let F : List Assignment → Type 0 = λ ps. NoneFalse b.clauses (lits ps) in
+    let U : List Assignment → Type 0 = λ ps. NoneUnit b.clauses (lits ps) in
     record {
       followed = record {
         vars = h.followed.vars;
-        agrees = ap (take low) marks_are ∙ take-take low n (marks t.puts) (omega arith)
-            ∙ sym (take-take low t.low (marks t.puts) (omega arith)) ∙ ap (take low) h.followed.agrees ∙ take-take low t.low b.seen (omega arith);
+        agrees = ap (take low) marks_are ∙ take-take low n (marks t.assignments) (omega arith)
+            ∙ sym (take-take low t.low (marks t.assignments) (omega arith)) ∙ ap (take low) h.followed.agrees ∙ take-take low t.low b.seen (omega arith);
       };
       none_false = λ k. elim (cases_lt k level) [
-        | inl lt ↦ subst F (sym (upto-upto k level t.puts (omega arith))) (h.none_false k (omega arith))
+        | inl lt ↦ subst F (sym (upto-upto k level t.assignments (omega arith))) (h.none_false k (omega arith))
         | inr ge ↦ subst F (sym (cut k ge)) (h.none_false level below)
       ];
       none_unit = λ k. elim (cases_lt k level) [
-        | inl lt ↦ subst U (sym (upto-upto k level t.puts (omega arith))) (h.none_unit k (omega arith))
+        | inl lt ↦ subst U (sym (upto-upto k level t.assignments (omega arith))) (h.none_unit k (omega arith))
         | inr ge ↦ subst U (sym (cut k ge)) (h.none_unit level below)
       ];
     }
   where
-    cut : (k : ℕ) → level ≤ k → upto k (upto level t.puts) ≡ upto level t.puts
-    cut k ge = upto-all k 0 (upto level t.puts) level (Climbs-upto level 0 t.puts t.level trail.climbs (omega arith) (omega arith)) ge
+    cut : (k : ℕ) → level ≤ k → upto k (upto level t.assignments) ≡ upto level t.assignments
+    cut k ge = upto-all k 0 (upto level t.assignments) level (Climbs-upto level 0 t.assignments t.level trail.climbs (omega arith) (omega arith)) ge
 
 -- ---- clauses of two and three literals
 

@@ -1,6 +1,6 @@
 -- How a book is kept: beside the clauses two watched literals of each, in linked lists, and what was seen of a trail.
 use Rattle.std.specs.Prelude.{◌≡◌, ◌≢◌, ℕ, ◌+◌, ◌*◌, ◌^◌, ◌<◌, ◌≤◌, IsTrue, IsFalse, Bool, ℤ, pos, neg_ℤ, Option, Some, List, length, map, take, slice_get, slice_index, slice_index_or, All, ◌⊎◌}
-use Rattle.cnf_base.specs.Judged.{has, IsPassedIn}
+use Rattle.cnf_base.specs.Status.{has, IsSatisfiedIn}
 use Rattle.sat_watch.specs.declared.links.Watch.{Watch}
 use Rattle.sat_watch.specs.declared.mark.Mark.{Mark}
 use Rattle.sat_watch.specs.Book.{BookState, IsBookClause}
@@ -16,7 +16,7 @@ pub record IsPair (clause : List ℤ) (first second : ℤ) : Type 0 where
 
 -- the clause has a true literal, or these falsify neither of the two
 abbrev pub IsWatched : List ℤ → List ℤ → List ℤ → ℤ → ℤ → Type 0
-IsWatched true_lits looked_at clause first second = IsPassedIn true_lits clause ⊎ (IsFalse (has looked_at (neg_ℤ first)) × IsFalse (has looked_at (neg_ℤ second)))
+IsWatched true_lits looked_at clause first second = IsSatisfiedIn true_lits clause ⊎ (IsFalse (has looked_at (neg_ℤ first)) × IsFalse (has looked_at (neg_ℤ second)))
 
 -- the two watched literals of the clause at a place, in the list of all
 abbrev pub first_lit : List ℤ → ℕ → ℤ
@@ -58,23 +58,23 @@ BeginsLevel seen place = (j : ℕ) → j < place → slice_index (mark_levels se
 abbrev pub IsRising : List Mark → Type 0
 IsRising seen = (i j : ℕ) → i ≤ j → j < length seen → slice_index (mark_levels seen) i ≤ slice_index (mark_levels seen) j
 
--- where a look may start: at the front, at the first place of a level, or, if all was calm, past all that was seen
+-- where a look may start: at the front, at the first place of a level, or, if all was quiet, past all that was seen
 abbrev pub IsStart : List Mark → Bool → ℕ → Type 0
-IsStart seen calm start = (start ≡ 0) ⊎ (((start < length seen) × BeginsLevel seen start) ⊎ (IsTrue calm × (length seen ≤ start)))
+IsStart seen quiet start = (start ≡ 0) ⊎ (((start < length seen) × BeginsLevel seen start) ⊎ (IsTrue quiet × (length seen ≤ start)))
 
-pub record IsKept (b : BookState) (heads : List (Option ℕ)) (watches : List Watch) (all_seen : List Mark) (count looked : ℕ) (calm : Bool) : Type 0 where
+pub record IsKept (b : BookState) (heads : List (Option ℕ)) (watches : List Watch) (all_seen : List Mark) (count watched_count : ℕ) (quiet : Bool) : Type 0 where
   pub few_vars : b.vars ≤ 4000000
   pub clauses : All (IsBookClause b.vars) b.clauses
   pub sizes : AreSized b.vars b.clauses heads watches
   pub seen_room : length all_seen ≡ b.vars
   pub number : count ≤ b.vars
-  pub some_looked : looked ≤ length b.clauses
+  pub watched_some : watched_count ≤ length b.clauses
   pub rising : IsRising b.seen
   -- the clauses that were looked at are linked and watched; the watches of the others wait to be chosen
-  pub linked : AreLinked heads (take (2 * looked) watches)
-  pub pairs : EachBefore looked IsPair b.clauses (watch_lits watches)
+  pub linked : AreLinked heads (take (2 * watched_count) watches)
+  pub pairs : EachBefore watched_count IsPair b.clauses (watch_lits watches)
   -- where the literals before a level are true, for each level that was seen
   pub watched_before : (place : ℕ) → place < length b.seen → BeginsLevel b.seen place
-      → EachBefore looked (IsWatched (take place (mark_lits b.seen)) (take place (mark_lits b.seen))) b.clauses (watch_lits watches)
+      → EachBefore watched_count (IsWatched (take place (mark_lits b.seen)) (take place (mark_lits b.seen))) b.clauses (watch_lits watches)
   -- and after Quiet under all that was seen
-  pub watched_whole : IsTrue calm → EachBefore looked (IsWatched (mark_lits b.seen) (mark_lits b.seen)) b.clauses (watch_lits watches)
+  pub watched_whole : IsTrue quiet → EachBefore watched_count (IsWatched (mark_lits b.seen) (mark_lits b.seen)) b.clauses (watch_lits watches)

@@ -2,7 +2,7 @@
 use Rattle.std.specs.Prelude.{◌≡◌, ℕ, zero, suc, ◌<◌, nat_eq, ℤ, Option, None, Some, option_and_then, List, [], ◌∷◌, ◌++◌, length, map, slice_get, slice_set, slice_index_or, All, Contains}
 use Rattle.std.specs.List.{IsDistinct}
 use Rattle.sat_watch.specs.declared.links.Watch.{Watch}
-use Rattle.sat_watch.specs.Slots.{slot}
+use Rattle.cnf_base.specs.Literal.{lit_index}
 
 abbrev pub watch_lits : List Watch → List ℤ
 watch_lits watches = map (λ w. w.lit) watches
@@ -19,7 +19,7 @@ chain (suc n) watches (Some w) = w ∷ chain n watches (next_of watches w)
 
 -- where a literal's list begins
 abbrev pub head_of : List (Option ℕ) → ℤ → Option ℕ
-head_of heads l = slice_index_or heads (slot l) None
+head_of heads l = slice_index_or heads (lit_index l) None
 
 -- the watches of a literal
 abbrev pub watchers : List (Option ℕ) → List Watch → ℤ → List ℕ
@@ -32,7 +32,7 @@ Leads watches link (w ∷ ws) to = (link ≡ Some w) × Leads watches (next_of w
 
 -- each watch stands once, in the list of its literal
 pub record AreLinked (heads : List (Option ℕ)) (watches : List Watch) : Type 0 where
-  pub in_range : All (λ (w : Watch). slot w.lit < length heads) watches
+  pub in_range : All (λ (w : Watch). lit_index w.lit < length heads) watches
   pub leads : (l : ℤ) → Leads watches (head_of heads l) (watchers heads watches l) None
   pub has_all : (w : ℕ) (l : ℤ) → slice_get (watch_lits watches) w ≡ Some l → Contains (watchers heads watches l) w
   pub has_only : (w : ℕ) (l : ℤ) → Contains (watchers heads watches l) w → slice_get (watch_lits watches) w ≡ Some l
@@ -55,5 +55,5 @@ pub record StandsBehind (heads : List (Option ℕ)) (watches : List Watch) (prev
 
 -- the link that led to a watch leads past it: the link of the one before it, or its list's first
 abbrev pub LeadsPast : List (Option ℕ) → List Watch → Watch → Option ℕ → List (Option ℕ) → List Watch → Type 0
-LeadsPast heads watches x None heads' watches' = (heads' ≡ slice_set heads (slot x.lit) x.next) × (watches' ≡ watches)
+LeadsPast heads watches x None heads' watches' = (heads' ≡ slice_set heads (lit_index x.lit) x.next) × (watches' ≡ watches)
 LeadsPast heads watches x (Some p) heads' watches' = (heads' ≡ heads) × ((y : Watch) → slice_get watches p ≡ Some y → watches' ≡ slice_set watches p (record y { next = x.next }))

@@ -6,7 +6,7 @@ use Rattle.sat_watch.specs.Book.{BookState, NoneFalse, NoneUnit, NoneFalseBelow,
 -- the trail is the one that the book has seen, as far as it kept its literals
 pub record IsFollowed (b : BookState) (t : TrailState) : Type 0 where
   pub vars : t.vars ≡ b.vars
-  pub agrees : take t.low (marks t.puts) ≡ take t.low b.seen
+  pub agrees : take t.low (marks t.assignments) ≡ take t.low b.seen
 
 -- what propagation asks for
 pub record IsReady (b : BookState) (t : TrailState) : Type 0 where
@@ -17,5 +17,5 @@ pub record IsReady (b : BookState) (t : TrailState) : Type 0 where
 -- up to no level is a clause false or unit: so it is after Quiet
 pub record IsSettled (b : BookState) (t : TrailState) : Type 0 where
   pub followed : IsFollowed b t
-  pub none_false : (k : ℕ) → NoneFalse b.clauses (lits (upto k t.puts))
-  pub none_unit : (k : ℕ) → NoneUnit b.clauses (lits (upto k t.puts))
+  pub none_false : (k : ℕ) → NoneFalse b.clauses (lits (upto k t.assignments))
+  pub none_unit : (k : ℕ) → NoneUnit b.clauses (lits (upto k t.assignments))

@@ -1,10 +1,5 @@
--- Where the list of a literal stands, and how a link is numbered.
-use Rattle.std.specs.Prelude.{◌≡◌, refl, ℕ, zero, suc, ◌+◌, ◌*◌, ℤ, pos, negsuc, Option, None, Some}
-
--- the place of a literal's list
-abbrev pub slot : ℤ → ℕ
-slot (pos n) = 2 * n
-slot (negsuc n) = 2 * (n + 1) + 1
+-- How a link is numbered.
+use Rattle.std.specs.Prelude.{◌≡◌, refl, ℕ, zero, suc, Option, None, Some}
 
 -- 0 stands for none
 abbrev pub numbered : ℕ → Option ℕ

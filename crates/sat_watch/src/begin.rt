@@ -10,7 +10,7 @@ ghost use Rattle.sat_watch.specs.Watching.{IsChosen, AreKnown, AreWatchedBelow};
 
 use crate::choose::choose_from;
 use crate::links::{Link, Watch, link_from, unlink_all};
-use crate::seen::is_standing;
+use crate::seen::is_at_present_level;
 use cnf_base::Clause;
 use sat_trail::Trail;
 
@@ -23,17 +23,17 @@ pub struct Begin {
 
 /// Where literals of lower levels wait to be looked at, the watches that there are may be false up to such a level: then
 /// all clauses count as new, and no watch is linked.
-fn begin_at(heads: &mut [Link], looked: usize, start: u32, trail: &Trail) -> Begin
-    requires { start ≤ length trail.now.puts }
-    ensures clause { result.clause ≤ looked }
-    ensures literal { result.literal ≤ length trail.now.puts }
-    ensures standing { (k : ℕ) → k < trail.now.level → length (upto k trail.now.puts) ≤ result.literal }
-    ensures known { (clauses : List (List ℤ)) (watches : List Watch) → AreKnown clauses heads.old watches trail.now looked start
+fn begin_at(heads: &mut [Link], watched_count: usize, start: u32, trail: &Trail) -> Begin
+    requires { start ≤ length trail.now.assignments }
+    ensures clause { result.clause ≤ watched_count }
+    ensures literal { result.literal ≤ length trail.now.assignments }
+    ensures at_level { (k : ℕ) → k < trail.now.level → length (upto k trail.now.assignments) ≤ result.literal }
+    ensures known { (clauses : List (List ℤ)) (watches : List Watch) → AreKnown clauses heads.old watches trail.now watched_count start
         → AreKnown clauses heads.new watches trail.now result.clause result.literal }
 {
-    if is_standing(trail, start) {
+    if is_at_present_level(trail, start) {
         Begin {
-            clause: looked,
+            clause: watched_count,
             literal: start,
         }
     } else {
@@ -50,25 +50,25 @@ pub fn watch_new(
     clauses: &[Clause],
     heads: &mut [Link],
     watches: &mut [Watch],
-    looked: usize,
+    watched_count: usize,
     start: u32,
     trail: &Trail,
 ) -> Begin
     requires clauses { All (IsBookClause trail.now.vars) clauses.now }
     requires sizes { AreSized trail.now.vars clauses.now heads.old watches.old }
-    requires looked { looked ≤ length clauses.now }
-    requires start { start ≤ length trail.now.puts }
-    requires known { AreKnown clauses.now heads.old watches.old trail.now looked start }
+    requires watched_count { watched_count ≤ length clauses.now }
+    requires start { start ≤ length trail.now.assignments }
+    requires known { AreKnown clauses.now heads.old watches.old trail.now watched_count start }
     requires none_false { NoneFalseBelow clauses.now trail.now }
     requires none_unit { NoneUnitBelow clauses.now trail.now }
-    ensures literal { result.literal ≤ length trail.now.puts }
+    ensures literal { result.literal ≤ length trail.now.assignments }
     ensures below { AreWatchedBelow clauses.now heads.new watches.new trail.now }
-    ensures old_clauses { EachBefore result.clause (IsWatched (take result.literal (lits trail.now.puts)) (take result.literal (lits trail.now.puts)))
+    ensures old_clauses { EachBefore result.clause (IsWatched (take result.literal (lits trail.now.assignments)) (take result.literal (lits trail.now.assignments)))
         clauses.now (watch_lits watches.new) }
-    ensures new_clauses { EachFrom result.clause (IsChosen trail.now.puts) clauses.now (watch_lits watches.new) }
+    ensures new_clauses { EachFrom result.clause (IsChosen trail.now.assignments) clauses.now (watch_lits watches.new) }
 {
     let _ = trail.vars();
-    let begin = begin_at(heads, looked, start, trail);
+    let begin = begin_at(heads, watched_count, start, trail);
     choose_from(clauses, watches, begin.clause, trail);
     link_from(heads, watches, 2 * begin.clause);
     begin

@@ -2,14 +2,14 @@
 
 ghost use Rattle.std.specs.Prelude.{◌≡◌, ℤ, List, ◌≤◌, ◌++◌, ◌∷◌, [], All, length, take, IsTrue, ◌↔◌, IfOk, OnOk, OnErr};
 ghost use Rattle.sat_trail.specs.Trail.{lits};
-ghost use Rattle.sat_watch.specs.Book.{IsBookClause, IsClauseOf, NoneFalseBelow, NoneUnitBelow, marks, Spreads, ScanIs};
+ghost use Rattle.sat_watch.specs.Book.{IsBookClause, IsClauseOf, NoneFalseBelow, NoneUnitBelow, marks, ExtendsByUnits, ScanIs};
 
 use crate::append::append;
 use crate::links::{Link, Watch};
 use crate::mark::Mark;
+use crate::propagate::propagate_watches;
 use crate::scan::{Scan, is_quiet};
 use crate::seen::{first_marks, note, start_of};
-use crate::spread::spread;
 use cnf_base::{Clause, CnfLit};
 use ketch_base::{OutOfMemory, Sequence};
 use sat_trail::{ClauseId, Trail};
@@ -28,8 +28,8 @@ pub struct ClauseBook {
     watches: Vec<Watch>,
     seen: Vec<Mark>,
     count: u32,
-    looked: usize,
-    calm: bool,
+    watched_count: usize,
+    quiet: bool,
 }
 
 impl Model for ClauseBook {
@@ -42,7 +42,7 @@ impl Model for ClauseBook {
     ghost view = { λ b. record { vars = b.vars; clauses = b.clauses; seen = take b.count b.seen.items } };
 
     ghost invariant = { λ b. IsKept (record { vars = b.vars; clauses = b.clauses; seen = take b.count b.seen.items })
-        b.heads.items b.watches.items b.seen.items b.count b.looked b.calm };
+        b.heads.items b.watches.items b.seen.items b.count b.watched_count b.quiet };
 }
 
 impl ClauseBook {
@@ -64,8 +64,8 @@ impl ClauseBook {
             watches: Vec::new(alloc),
             seen,
             count: 0,
-            looked: 0,
-            calm: true,
+            watched_count: 0,
+            quiet: true,
         })
     }
 
@@ -119,31 +119,31 @@ impl ClauseBook {
     /// a conflict, and then finds a clause that is false for as long as there is one.
     pub fn propagate(&mut self, trail: &mut Trail) -> Scan
         requires vars { trail.old.vars ≡ self.old.vars }
-        requires agrees { take trail.old.low (marks trail.old.puts) ≡ take trail.old.low self.old.seen }
+        requires agrees { take trail.old.low (marks trail.old.assignments) ≡ take trail.old.low self.old.seen }
         requires none_false { NoneFalseBelow self.old.clauses trail.old }
         requires none_unit { NoneUnitBelow self.old.clauses trail.old }
-        ensures book { self.new ≡ record self.old { seen = marks trail.new.puts } }
-        ensures spreads { Spreads self.old.clauses trail.old trail.new }
-        ensures marked { trail.new.low ≡ length trail.new.puts }
-        ensures answer { ScanIs self.old.clauses (lits trail.new.puts) result }
+        ensures book { self.new ≡ record self.old { seen = marks trail.new.assignments } }
+        ensures by_units { ExtendsByUnits self.old.clauses trail.old trail.new }
+        ensures marked { trail.new.low ≡ length trail.new.assignments }
+        ensures answer { ScanIs self.old.clauses (lits trail.new.assignments) result }
     {
         let _ = trail.vars();
         let low = trail.low();
-        let start = start_of(first_marks(&self.seen, self.count), low, self.calm);
-        let scan = spread(
+        let start = start_of(first_marks(&self.seen, self.count), low, self.quiet);
+        let scan = propagate_watches(
             self.clauses.as_slice(),
             &mut self.heads,
             &mut self.watches,
-            self.looked,
+            self.watched_count,
             start,
             trail,
         );
         note(&mut self.seen, trail, low);
         let count = trail.len();
-        let looked = self.clauses.len();
+        let watched_count = self.clauses.len();
         self.count = count;
-        self.looked = looked;
-        self.calm = is_quiet(scan);
+        self.watched_count = watched_count;
+        self.quiet = is_quiet(scan);
         trail.mark();
         scan
     }

@@ -1,7 +1,7 @@
 //! The choice of a clause's two watches: the literals that are falsified last.
 
 ghost use Rattle.std.specs.Prelude.{◌≡◌, ◌≢◌, ℤ, List, [], ◌∷◌, ◌++◌, ◌*◌, ◌≤◌, All, MatchBool, IsFalse, length, nat_abs, take};
-ghost use Rattle.cnf_base.specs.Judged.{has};
+ghost use Rattle.cnf_base.specs.Status.{has};
 ghost use Rattle.sat_watch.specs.Book.{IsBookClause};
 ghost use Rattle.sat_watch.specs.Kept.{EachFrom};
 ghost use Rattle.sat_watch.specs.Links.{watch_lits};
@@ -21,7 +21,7 @@ struct Pair {
 /// The level from which on a literal is false: none where it isn't false.
 fn false_level(trail: &Trail, lit: CnfLit) -> Option<u32>
     requires { nat_abs lit ≤ trail.now.vars }
-    ensures { IsFalseFrom trail.now.puts lit result }
+    ensures { IsFalseFrom trail.now.assignments lit result }
 {
     let _ = trail.vars();
     match trail.value(lit) {
@@ -34,7 +34,7 @@ fn false_level(trail: &Trail, lit: CnfLit) -> Option<u32>
 fn lasts(trail: &Trail, first: CnfLit, second: CnfLit) -> bool
     requires first { nat_abs first ≤ trail.now.vars }
     requires second { nat_abs second ≤ trail.now.vars }
-    ensures { MatchBool result (Lasts trail.now.puts first second) (Lasts trail.now.puts second first) }
+    ensures { MatchBool result (Lasts trail.now.assignments first second) (Lasts trail.now.assignments second first) }
 {
     match false_level(trail, first) {
         None => true,
@@ -49,7 +49,7 @@ fn in_order(trail: &Trail, a: CnfLit, b: CnfLit) -> Pair
     requires a { nat_abs a ≤ trail.now.vars }
     requires b { nat_abs b ≤ trail.now.vars }
     requires differ { a ≢ b }
-    ensures { IsChosen trail.now.puts (a ∷ b ∷ []) result.first result.second }
+    ensures { IsChosen trail.now.assignments (a ∷ b ∷ []) result.first result.second }
 {
     if lasts(trail, a, b) {
         Pair {
@@ -69,8 +69,8 @@ fn with_one_more(trail: &Trail, pair: Pair, lit: CnfLit) -> Pair
     requires first { nat_abs pair.first ≤ trail.now.vars }
     requires second { nat_abs pair.second ≤ trail.now.vars }
     requires lit { nat_abs lit ≤ trail.now.vars }
-    ensures { (clause : List ℤ) → IsFalse (has clause lit) → IsChosen trail.now.puts clause pair.first pair.second
-        → IsChosen trail.now.puts (clause ++ lit ∷ []) result.first result.second }
+    ensures { (clause : List ℤ) → IsFalse (has clause lit) → IsChosen trail.now.assignments clause pair.first pair.second
+        → IsChosen trail.now.assignments (clause ++ lit ∷ []) result.first result.second }
 {
     if lasts(trail, pair.second, lit) {
         pair
@@ -89,7 +89,7 @@ fn with_one_more(trail: &Trail, pair: Pair, lit: CnfLit) -> Pair
 
 fn choose(trail: &Trail, clause: &[CnfLit]) -> Pair
     requires { IsBookClause trail.now.vars clause.now }
-    ensures { IsChosen trail.now.puts clause.now result.first result.second }
+    ensures { IsChosen trail.now.assignments clause.now result.first result.second }
 {
     let mut pair = in_order(trail, clause[0], clause[1]);
     for place in 2..clause.len() {
@@ -104,7 +104,7 @@ pub fn choose_from(clauses: &[Clause], watches: &mut [Watch], from: usize, trail
     requires two_each { length watches.old ≡ 2 * length clauses.now }
     requires from { from ≤ length clauses.now }
     ensures others { take (2 * from) watches.new ≡ take (2 * from) watches.old }
-    ensures chosen { EachFrom from (IsChosen trail.now.puts) clauses.now (watch_lits watches.new) }
+    ensures chosen { EachFrom from (IsChosen trail.now.assignments) clauses.now (watch_lits watches.new) }
 {
     for place in from..clauses.len() {
         let pair = choose(trail, clauses[place].as_slice());

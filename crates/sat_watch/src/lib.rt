@@ -8,11 +8,9 @@ mod choose;
 mod examine;
 mod links;
 mod mark;
+mod propagate;
 mod scan;
 mod seen;
-mod spread;
-#[cfg(test)]
-mod tests;
 mod visit;
 
 pub use book::ClauseBook;

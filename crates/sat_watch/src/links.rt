@@ -3,7 +3,7 @@
 ghost use Rattle.std.specs.Prelude.{◌≡◌, ◌≢◌, ℕ, ℤ, List, Option, None, Some, [], ◌∷◌, ◌++◌, ◌+◌, ◌^◌, ◌<◌, ◌≤◌, All, length, take, slice_get, slice_set};
 ghost use Rattle.sat_watch.specs.declared.links.Watch.{Watch};
 ghost use Rattle.sat_watch.specs.Links.{watch_lits, head_of, watchers, AreLinked, StandsBehind, LeadsPast};
-ghost use Rattle.sat_watch.specs.Slots.{slot};
+ghost use Rattle.cnf_base.specs.Literal.{lit_index};
 
 use cnf_base::CnfLit;
 use std::marker::Model;
@@ -63,21 +63,13 @@ pub struct Watch {
     pub next: Link,
 }
 
-/// The place of a literal's list.
-#[inline]
-fn slot(lit: CnfLit) -> usize
-    ensures place { result ≡ slot lit }
-{
-    2 * lit.var() as usize + usize::from(!lit.is_positive())
-}
-
 /// The first watch of a literal.
 #[inline]
 pub fn first_watch(heads: &[Link], lit: CnfLit) -> Option<u32>
-    requires { slot lit < length heads.now }
+    requires { lit_index lit < length heads.now }
     ensures { (watches : List Watch) → AreLinked heads.now watches → result ≡ slice_get (watchers heads.now watches lit) 0 }
 {
-    heads[slot(lit)].watch()
+    heads[lit.index()].watch()
 }
 
 /// The watch that follows in the list.
@@ -94,19 +86,19 @@ pub fn next_watch(watches: &[Watch], watch: u32) -> Option<u32>
 fn link_front(heads: &mut [Link], watches: &mut [Watch], watch: u32, lit: CnfLit)
     requires few { length watches.old < 2 ^ 32 }
     requires watch { watch < length watches.old }
-    requires in_range { slot lit < length heads.old }
-    ensures heads { heads.new ≡ slice_set heads.old (slot lit) (Some watch) }
+    requires in_range { lit_index lit < length heads.old }
+    ensures heads { heads.new ≡ slice_set heads.old (lit_index lit) (Some watch) }
     ensures watches { watches.new ≡ slice_set watches.old watch (record { lit = lit; next = head_of heads.old lit }) }
 {
-    let slot = slot(lit);
+    let index = lit.index();
     watches[watch as usize] = Watch {
         lit,
-        next: heads[slot],
+        next: heads[index],
     };
-    heads[slot] = Link::to(watch);
+    heads[index] = Link::to(watch);
 }
 
-/// Lets the link that leads to a watch, the one before it or its list's first, lead to what follows.
+/// Takes a watch out of its list: the link of the watch before it, or else the list's first, skips it.
 fn lead_past(heads: &mut [Link], watches: &mut [Watch], previous: Option<u32>, watch: u32)
     requires stands { StandsBehind heads.old watches.old previous watch }
     requires linked { AreLinked heads.old watches.old }
@@ -114,7 +106,7 @@ fn lead_past(heads: &mut [Link], watches: &mut [Watch], previous: Option<u32>, w
 {
     let next = watches[watch as usize].next;
     match previous {
-        None => heads[slot(watches[watch as usize].lit)] = next,
+        None => heads[watches[watch as usize].lit.index()] = next,
         Some(before) => watches[before as usize].next = next,
     }
 }
@@ -122,7 +114,7 @@ fn lead_past(heads: &mut [Link], watches: &mut [Watch], previous: Option<u32>, w
 /// Links the watches from this one on, each at the front of its literal's list, where those before it are linked.
 pub fn link_from(heads: &mut [Link], watches: &mut [Watch], from: usize)
     requires few { length watches.old < 2 ^ 32 }
-    requires in_range { All (λ (w : Watch). slot w.lit < length heads.old) watches.old }
+    requires in_range { All (λ (w : Watch). lit_index w.lit < length heads.old) watches.old }
     requires from { from ≤ length watches.old }
     requires linked { AreLinked heads.old (take from watches.old) }
     ensures linked { AreLinked heads.new watches.new }
@@ -134,7 +126,7 @@ pub fn link_from(heads: &mut [Link], watches: &mut [Watch], from: usize)
     }
 }
 
-/// Takes a watch out from behind the one before it, and puts it at the front of another literal's list.
+/// Takes a watch out from behind the one before it, and assignments it at the front of another literal's list.
 pub fn move_watch(
     heads: &mut [Link],
     watches: &mut [Watch],
@@ -145,7 +137,7 @@ pub fn move_watch(
     requires few { length watches.old < 2 ^ 32 }
     requires linked { AreLinked heads.old watches.old }
     requires stands { StandsBehind heads.old watches.old previous watch }
-    requires in_range { slot lit < length heads.old }
+    requires in_range { lit_index lit < length heads.old }
     requires other { (x : Watch) → slice_get watches.old watch ≡ Some x → lit ≢ x.lit }
     ensures linked { AreLinked heads.new watches.new }
     ensures lits { watch_lits watches.new ≡ slice_set (watch_lits watches.old) watch lit }

@@ -37,14 +37,14 @@ fn first_of_level(seen: &[Mark], place: u32) -> u32
 /// How many of the trail's first literals needn't be looked at again, where it kept `low` of those that were seen.
 ///
 /// A trail may go back and come again to as many literals: so a level that lost one is looked at from its first place.
-pub fn start_of(seen: &[Mark], low: u32, calm: bool) -> u32
+pub fn start_of(seen: &[Mark], low: u32, quiet: bool) -> u32
     requires { IsRising seen.now }
     ensures at_most { result ≤ low }
-    ensures start { IsStart seen.now calm result }
+    ensures start { IsStart seen.now quiet result }
 {
     if (low as usize) < seen.len() {
         first_of_level(seen, low)
-    } else if calm {
+    } else if quiet {
         low
     } else {
         0
@@ -52,9 +52,9 @@ pub fn start_of(seen: &[Mark], low: u32, calm: bool) -> u32
 }
 
 /// Whether no literal from this place on is of a level below the present one.
-pub fn is_standing(trail: &Trail, start: u32) -> bool
-    requires { start ≤ length trail.now.puts }
-    ensures { IsTrue result → (k : ℕ) → k < trail.now.level → length (upto k trail.now.puts) ≤ start }
+pub fn is_at_present_level(trail: &Trail, start: u32) -> bool
+    requires { start ≤ length trail.now.assignments }
+    ensures { IsTrue result → (k : ℕ) → k < trail.now.level → length (upto k trail.now.assignments) ≤ start }
 {
     if start < trail.len() {
         trail.level_at(start) == trail.level()
@@ -65,9 +65,9 @@ pub fn is_standing(trail: &Trail, start: u32) -> bool
 
 /// Writes the trail's marks from this place on.
 pub fn note(seen: &mut [Mark], trail: &Trail, from: u32)
-    requires from { from ≤ length trail.now.puts }
+    requires from { from ≤ length trail.now.assignments }
     requires room { trail.now.vars ≤ length seen.old }
-    ensures { take (length trail.now.puts) seen.new ≡ take from seen.old ++ drop from (marks trail.now.puts) }
+    ensures { take (length trail.now.assignments) seen.new ≡ take from seen.old ++ drop from (marks trail.now.assignments) }
 {
     for place in from..trail.len() {
         seen[place as usize] = Mark {

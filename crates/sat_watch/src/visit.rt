@@ -1,9 +1,9 @@
 //! One watch of a literal that became false.
 
 ghost use Rattle.std.specs.Prelude.{◌≡◌, ◌≢◌, ℤ, ◌+◌, ◌^◌, ◌<◌, ◌≤◌, All, IsTrue, MatchOption, length, nat_abs, neg_ℤ, pos, slice_index_or};
-ghost use Rattle.cnf_base.specs.Judged.{has, IsFalseIn};
+ghost use Rattle.cnf_base.specs.Status.{has, IsFalseIn};
 ghost use Rattle.sat_trail.specs.Trail.{lits};
-ghost use Rattle.sat_watch.specs.Book.{IsBookClause, Spreads};
+ghost use Rattle.sat_watch.specs.Book.{IsBookClause, ExtendsByUnits};
 ghost use Rattle.sat_watch.specs.Kept.{IsPair, Each, AreSized};
 ghost use Rattle.sat_watch.specs.Links.{watch_lits, AreLinked, StandsBehind};
 ghost use Rattle.sat_watch.specs.Watching.{IsFreeOf, sibling, VisitIs};
@@ -34,8 +34,8 @@ fn sibling(watch: u32) -> u32
 /// A literal of the clause that isn't false, and isn't this one.
 fn find_free(trail: &Trail, clause: &[CnfLit], other: CnfLit) -> Option<CnfLit>
     requires { All (λ l. nat_abs l ≤ trail.now.vars) clause.now }
-    ensures { MatchOption result ((l : ℤ) → IsTrue (has clause.now l) → l ≢ other → IsFalseIn (lits trail.now.puts) l)
-        (IsFreeOf (lits trail.now.puts) clause.now other) }
+    ensures { MatchOption result ((l : ℤ) → IsTrue (has clause.now l) → l ≢ other → IsFalseIn (lits trail.now.assignments) l)
+        (IsFreeOf (lits trail.now.assignments) clause.now other) }
 {
     for lit in clause {
         if *lit != other {
@@ -63,10 +63,10 @@ pub fn visit_watch(
     requires linked { AreLinked heads.old watches.old }
     requires pairs { Each IsPair clauses.now (watch_lits watches.old) }
     requires stands { StandsBehind heads.old watches.old previous watch }
-    requires falsified { IsTrue (has (lits trail.old.puts) (neg_ℤ (slice_index_or (watch_lits watches.old) watch (pos 0)))) }
-    ensures spreads { Spreads clauses.now trail.old trail.new }
+    requires falsified { IsTrue (has (lits trail.old.assignments) (neg_ℤ (slice_index_or (watch_lits watches.old) watch (pos 0)))) }
+    ensures by_units { ExtendsByUnits clauses.now trail.old trail.new }
     ensures low { trail.new.low ≡ trail.old.low }
-    ensures answer { VisitIs clauses.now (lits trail.new.puts) watch heads.old watches.old heads.new watches.new result }
+    ensures answer { VisitIs clauses.now (lits trail.new.assignments) watch heads.old watches.old heads.new watches.new result }
 {
     let _ = trail.vars();
     let other = watches[sibling(watch) as usize].lit;

@@ -35,7 +35,7 @@ pub fn solved<D: Desk>(
 ) -> Result<Answer, Stop>
     requires some { 1 ≤ lemmas }
     requires few { lemmas ≤ 2 ^ 60 }
-    ensures answer { IfOk result (λ answer. IfSome (D.text desk.old name.now) (λ text. IsAnswerTo text lemmas answer)) }
+    ensures answer { IfOk result (λ answer. IfSome ((D.state desk.old).text name.now) (λ text. IsAnswerTo text lemmas answer)) }
     ensures none { IfErr result IsWithoutAnswer }
 {
     let bytes = read_file(alloc, desk, name, LIMIT)?;

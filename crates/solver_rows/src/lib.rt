@@ -2,6 +2,12 @@
 #![tactic(auto)]
 
 #[cfg(test)]
+mod book_clauses;
+#[cfg(test)]
+mod book_rows;
+#[cfg(test)]
+mod book_steps;
+#[cfg(test)]
 mod families;
 #[cfg(test)]
 mod family_rows;
@@ -10,10 +16,18 @@ mod formulas;
 #[cfg(test)]
 mod judging;
 #[cfg(test)]
+mod learn_rows;
+#[cfg(test)]
+mod learn_steps;
+#[cfg(test)]
+mod queue_rows;
+#[cfg(test)]
 mod random;
 #[cfg(test)]
 mod random_rows;
 #[cfg(test)]
 mod rows;
+#[cfg(test)]
+mod trail_rows;
 #[cfg(test)]
 mod truth;

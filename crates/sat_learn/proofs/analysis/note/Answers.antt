@@ -2,8 +2,8 @@ use Rattle.std.proofs.Common.{◌≡◌, ℕ, ◌+◌, ◌<◌, true, false, ℤ
 use Rattle.std.proofs.lemmas.Bool.{both_ways}
 use Rattle.sat_learn.specs.Resolving.{is_marked}
 use Rattle.sat_learn.specs.Tracking.{IsTracked}
-use Rattle.sat_learn.proofs.Puts.{level_to, false_at_one}
-use Rattle.sat_learn.proofs.Tracked.{track_root, track_kept, track_open}
+use Rattle.sat_learn.proofs.Assignments.{level_to, false_at_one}
+use Rattle.sat_learn.proofs.Tracking.{track_root, track_kept, track_open}
 use Rattle.sat_learn.proofs.analysis.note.Goals as goal
 
 pub returns-then-level-eq0-clause-tracked : goal.returns-then-level-eq0-clause-tracked
@@ -32,7 +32,7 @@ returns-else-level-clause-tracked c =
     let at = c.level_of_false-level.ensures in
     let unmarked : is_marked c.args.marks.now c.args.lit ≡ false = ap (λ n. get_or c.args.marks.now n false) (sym c.var-place.ensures.size) ∙ c.if-marks-place.false in
     let P : ℕ → Type 0 = λ v. IsTracked t (set c.args.marks.now v true) a.kept.items a.rooted (a.open_count + 1) in
-    let high = level_to 0 t.puts t.level at.place at.put c.requires.trail.climbs at.stands in
+    let high = level_to 0 t.assignments t.level at.place at.assignment c.requires.trail.climbs at.stands in
     let present : c.level_of_false-level.result ≡ t.level = omega (arith, c.if-level.false, c.level.ensures, at.at_level) in
     subst P (sym c.var-place.ensures.size)
     (track_open t c.args.marks.now a.kept.items a.rooted a.open_count c.args.lit c.level_of_false-level.result c.requires.trail c.requires.tracked c.requires.in_range unmarked c.level_of_false-level.ensures present)

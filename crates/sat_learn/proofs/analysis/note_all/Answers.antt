@@ -4,7 +4,7 @@ use Rattle.std.proofs.lemmas.Bool.{or_left}
 use Rattle.std.proofs.lemmas.List.{take_all}
 use Rattle.cnf_base.proofs.Literals.{or-false}
 use Rattle.sat_learn.specs.Resolving.{with_marks}
-use Rattle.sat_learn.proofs.Marking.{marked_more, has_at, mark_in_range, false_in_range}
+use Rattle.sat_learn.proofs.MarkedLiterals.{marked_more, has_at, mark_in_range, false_in_range}
 use Rattle.sat_learn.proofs.analysis.note_all.Goals as goal
 
 pub loop-lit-init : goal.loop-lit-init

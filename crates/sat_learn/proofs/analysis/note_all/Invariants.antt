@@ -1,6 +1,6 @@
 use Rattle.std.proofs.Common.{◌≡◌, ℕ, ◌≤◌, true, false, ℤ, take, get_or}
 use Rattle.sat_learn.specs.Resolving.{with_marks}
-use Rattle.cnf_base.specs.Judged.{has}
+use Rattle.cnf_base.specs.Status.{has}
 use Rattle.sat_learn.specs.Tracking.{IsEarlier, IsTracked}
 use Rattle.sat_learn.proofs.analysis.note_all.Given as goal
 

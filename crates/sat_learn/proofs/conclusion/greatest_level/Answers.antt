@@ -1,8 +1,8 @@
 use Rattle.std.proofs.Common.{List, ℤ, subst}
 use Rattle.std.proofs.lemmas.List.{take_all}
 use Rattle.sat_learn.specs.Tracking.{IsGreatestLevel}
-use Rattle.sat_learn.proofs.Marking.{has_at}
-use Rattle.sat_learn.proofs.Concluding.{greatest_none, greatest_more}
+use Rattle.sat_learn.proofs.MarkedLiterals.{has_at}
+use Rattle.sat_learn.proofs.LearnedLiterals.{greatest_none, greatest_more}
 use Rattle.sat_learn.proofs.conclusion.greatest_level.Goals as goal
 
 pub loop-lit-init : goal.loop-lit-init

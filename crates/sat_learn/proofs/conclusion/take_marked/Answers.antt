@@ -2,7 +2,7 @@ use Rattle.std.proofs.Common.{◌≡◌, ◌+◌, ◌<◌, Bool, false, ℤ, nat
 use Rattle.std.proofs.lemmas.List.{length-set}
 use Rattle.std.proofs.lemmas.List.Elements.{All-get_or}
 use Rattle.sat_learn.specs.Tracking.{IsTaken}
-use Rattle.sat_learn.proofs.Taking.{taken_first, taken_more, taken_less}
+use Rattle.sat_learn.proofs.Taken.{taken_first, taken_more, taken_less}
 use Rattle.sat_learn.proofs.conclusion.take_marked.Goals as goal
 use Rattle.sat_learn.proofs.conclusion.take_marked.Goals.{then-marks-place+in_ok-push-2, else-marks-place}
 

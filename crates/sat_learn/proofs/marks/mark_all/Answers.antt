@@ -3,7 +3,7 @@ use Rattle.std.proofs.lemmas.List.{take_all}
 use Rattle.std.proofs.lemmas.List.Elements.{All-get_or}
 use Rattle.cnf_base.proofs.Literals.{or-false}
 use Rattle.sat_learn.specs.Resolving.{with_marks}
-use Rattle.sat_learn.proofs.Marking.{marked_more}
+use Rattle.sat_learn.proofs.MarkedLiterals.{marked_more}
 use Rattle.sat_learn.proofs.marks.mark_all.Goals as goal
 
 pub loop-lit-init : goal.loop-lit-init

@@ -1,6 +1,6 @@
 use Rattle.std.proofs.Common.{◌≤◌, length}
 use Rattle.sat_trail.specs.Trail.{upto}
-use Rattle.sat_learn.specs.Lesson.{AreAtRoot}
+use Rattle.sat_learn.specs.Learned.{AreAtRoot}
 use Rattle.sat_learn.specs.Resolving.{AreRootsClear, DifferAtRoots, Resolves}
 use Rattle.sat_learn.proofs.roots.resolve_roots.Given as goal
 
@@ -8,11 +8,11 @@ use Rattle.sat_learn.proofs.roots.resolve_roots.Given as goal
 abbrev pub invariant-loop-place : goal.invariant-loop-place
 invariant-loop-place l =
     record {
-      within : l.place ≤ length (upto 0 l.trail.puts);
-      clear : AreRootsClear l.trail.puts l.marks l.place;
-      others : DifferAtRoots l.trail.puts l.initial.marks l.marks;
-      resolves : Resolves l.book.clauses l.names l.trail.puts l.initial.marks l.initial.hints.items l.marks l.hints.items;
-      roots : AreAtRoot l.trail.puts l.roots.items;
+      within : l.place ≤ length (upto 0 l.trail.assignments);
+      clear : AreRootsClear l.trail.assignments l.marks l.place;
+      others : DifferAtRoots l.trail.assignments l.initial.marks l.marks;
+      resolves : Resolves l.book.clauses l.proof_ids l.trail.assignments l.initial.marks l.initial.hints.items l.marks l.hints.items;
+      roots : AreAtRoot l.trail.assignments l.roots.items;
     }
 
 abbrev pub decreases-loop-place : goal.decreases-loop-place

@@ -1,7 +1,7 @@
 use Rattle.std.proofs.Common.{◌≡◌, ℕ, List, length, get_or, ap, ◌∙◌, arith}
 use Rattle.std.proofs.lemmas.List.{length-set}
 use Rattle.sat_queue.specs.Linked.{list_of, IsRing}
-use Rattle.sat_queue.proofs.Ringing.{moved, first_in_range, neighbours_in_range}
+use Rattle.sat_queue.proofs.Ring.{moved, first_in_range, neighbours_in_range}
 use Rattle.sat_queue.proofs.links.move_front.Goals as goal
 
 pub unlink-requires-clause-before : goal.unlink-requires-clause-before

@@ -1,10 +1,10 @@
-use Rattle.std.proofs.Common.{ℕ, ℤ, List, [], ◌∷◌, ◌++◌, sym, subst}
+use Rattle.std.proofs.Common.{ℕ, ◌<◌, ◌^◌, ℤ, List, [], ◌∷◌, ◌++◌, sym, subst, arith}
 use Rattle.lrat_text.specs.declared.proof.LratStep.{LratStep}
 use Rattle.lrat_text.specs.declared.proof.LratStep.TheVariants.{Add}
-use Rattle.sat_learn.specs.Reasons.{AreCalled}
+use Rattle.sat_learn.specs.Reasons.{HaveIds}
 use Rattle.sat_solver.specs.Answer.{IsRefutation}
 use Rattle.sat_solver.specs.Ledger.{live}
-use Rattle.sat_solver.proofs.Recording.{IsRefutation-end}
+use Rattle.sat_solver.proofs.Ledgers.{IsRefutation-end}
 use Rattle.sat_solver.proofs.closing.close.Goals as goal
 
 pub returns : goal.returns
@@ -15,8 +15,9 @@ returns c lemmas le =
     let pairs = live formula steps in
     let id = c.next_id.result in
     let hints = c.in_ok-hints.hints in
-    let P : List ℕ → Type 0 = λ names. AreCalled pairs c.args.search.book.clauses names c.args.search.trail.puts in
-    let ends = c.in_ok-hints.ensures.follows pairs (subst P (sym c.as_slice.ensures.value) s.sound.called) c.requires.called in
+    let P : List ℕ → Type 0 = λ proof_ids. HaveIds pairs c.args.search.book.clauses proof_ids c.args.search.trail.assignments in
+    let ends = c.in_ok-hints.ensures.follows pairs (subst P (sym c.as_slice.ensures.value) s.sound.has_id) c.requires.has_id in
+    let small : id < 2 ^ 62 = omega (arith, c.next_id.ensures, s.few_clauses, s.few_steps) in
     let Q : List LratStep → Type 0 = λ proof. IsRefutation formula lemmas proof in
     let R : List ℤ → Type 0 = λ lits. IsRefutation formula lemmas (steps ++ Add id lits hints ∷ []) in
-    subst Q (sym c.in_ok-push.ensures.ok) (subst R (sym c.new.ensures) (IsRefutation-end formula lemmas steps id hints s.ledger le c.next_id.ensures ends))
+    subst Q (sym c.in_ok-push.ensures.ok) (subst R (sym c.new.ensures) (IsRefutation-end formula lemmas steps id hints s.ledger le c.next_id.ensures small ends))

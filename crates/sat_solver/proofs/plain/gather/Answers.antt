@@ -1,14 +1,14 @@
 use Rattle.std.proofs.Common.{◌+◌, ◌<◌, None, refl, ap, sym, ◌∙◌, arith}
-use Rattle.cnf_base.specs.Judged.{has}
-use Rattle.sat_trail.specs.Trail.{Put, TrailState, lits, upto}
-use Rattle.sat_trail.proofs.Climbing.{upto-push_above}
-use Rattle.sat_solver.proofs.Gathering.{gather_both_ways, gather_again, gather_more}
+use Rattle.cnf_base.specs.Status.{has}
+use Rattle.sat_trail.specs.Trail.{Assignment, TrailState, lits, upto}
+use Rattle.sat_trail.proofs.Levels.{upto-push_above}
+use Rattle.sat_solver.proofs.PlainClauses.{gather_both_ways, gather_again, gather_more}
 use Rattle.sat_solver.proofs.plain.gather.Goals as goal
 use Rattle.sat_solver.proofs.plain.gather.Goals.{in-True, in-Unset}
 
 pub returns-in-False-clause-both_ways : goal.returns-in-False-clause-both_ways
 returns-in-False-clause-both_ways c _ =
-    gather_both_ways c.args.clause.now c.loop-lit.lit-index c.lit-item.result (lits c.loop-lit.scratch.puts) c.loop-lit-test.true c.lit-item.is c.loop-lit.invariant.same c.in-False.ensures
+    gather_both_ways c.args.clause.now c.loop-lit.lit-index c.lit-item.result (lits c.loop-lit.scratch.assignments) c.loop-lit-test.true c.lit-item.is c.loop-lit.invariant.same c.in-False.ensures
 
 pub loop-lit-preserved : goal.loop-lit-preserved
 loop-lit-preserved c =
@@ -18,19 +18,19 @@ loop-lit-preserved c =
     elim c.match-value.branch [
       | in-True w ↦ record {
         vars = ap (λ (t : TrailState). t.vars) w.scratch-is ∙ kept.vars;
-        above = ap (λ (t : TrailState). upto 0 t.puts) w.scratch-is ∙ kept.above;
+        above = ap (λ (t : TrailState). upto 0 t.assignments) w.scratch-is ∙ kept.above;
         same = λ x.
-            gather_again c.args.clause.now c.loop-lit.lit-index lit (lits old.puts) c.loop-lit-test.true c.lit-item.is kept.same w.in-True.ensures x
-            ∙ ap (λ (t : TrailState). has (lits t.puts) x) (sym w.scratch-is);
+            gather_again c.args.clause.now c.loop-lit.lit-index lit (lits old.assignments) c.loop-lit-test.true c.lit-item.is kept.same w.in-True.ensures x
+            ∙ ap (λ (t : TrailState). has (lits t.assignments) x) (sym w.scratch-is);
       }
-      | in-Unset w ↦ (let p : Put = record { lit = lit; level = old.level + 1; reason = None } in
+      | in-Unset w ↦ (let p : Assignment = record { lit = lit; level = old.level + 1; reason = None } in
           let is = w.scratch-is ∙ w.decide.ensures in
           let above : 0 < old.level + 1 = omega arith in
           record {
             vars = ap (λ (t : TrailState). t.vars) is ∙ kept.vars;
-            above = ap (λ (t : TrailState). upto 0 t.puts) is ∙ upto-push_above 0 old.puts p above ∙ kept.above;
+            above = ap (λ (t : TrailState). upto 0 t.assignments) is ∙ upto-push_above 0 old.assignments p above ∙ kept.above;
             same = λ x.
-                gather_more c.args.clause.now c.loop-lit.lit-index lit old.puts p c.loop-lit-test.true c.lit-item.is kept.same refl x
-                ∙ ap (λ (t : TrailState). has (lits t.puts) x) (sym is);
+                gather_more c.args.clause.now c.loop-lit.lit-index lit old.assignments p c.loop-lit-test.true c.lit-item.is kept.same refl x
+                ∙ ap (λ (t : TrailState). has (lits t.assignments) x) (sym is);
           })
     ]

@@ -1,7 +1,7 @@
 use Rattle.std.proofs.Common.{◌≡◌, ℤ, cond, take}
 use Rattle.sat_trail.specs.declared.truth.Value.TheVariants.{Unset}
 use Rattle.sat_trail.specs.Kept.{kept_value}
-use Rattle.sat_trail.proofs.Valuing.{touches}
+use Rattle.sat_trail.proofs.LiteralValues.{touches}
 use Rattle.sat_trail.proofs.values.unset_all.Given as goal
 
 -- the variables of the literals so far are unset, and no other value has changed

@@ -4,8 +4,8 @@ use Rattle.sat_watch.specs.declared.links.Watch.{Watch}
 use Rattle.sat_watch.specs.Kept.{IsPair, IsWatched, EachBefore, EachFrom}
 use Rattle.sat_watch.specs.Links.{AreLinked, watch_lits}
 use Rattle.sat_watch.specs.Watching.{IsChosen}
-use Rattle.sat_watch.proofs.Pairing.{EachBefore-same, lits-take}
-use Rattle.sat_watch.proofs.Beginning.{chosen_in_range, begin_below}
+use Rattle.sat_watch.proofs.Pairs.{EachBefore-same, lits-take}
+use Rattle.sat_watch.proofs.Start.{chosen_in_range, begin_below}
 use Rattle.sat_watch.proofs.begin.watch_new.Goals.{After-choose_from, After-link_from}
 use Rattle.sat_watch.proofs.begin.watch_new.Goals as goal
 
@@ -18,7 +18,7 @@ linked_there c =
 pub link_from-requires-clause-in_range : goal.link_from-requires-clause-in_range
 link_from-requires-clause-in_range c =
     let sizes = c.requires.sizes in
-    chosen_in_range c.args.trail.now.vars c.args.clauses.now c.begin_at-begin.new.heads c.choose_from.new.watches c.begin_at-begin.result.clause c.args.trail.now.puts
+    chosen_in_range c.args.trail.now.vars c.args.clauses.now c.begin_at-begin.new.heads c.choose_from.new.watches c.begin_at-begin.result.clause c.args.trail.now.assignments
     (c.begin_at-begin.auto.heads ∙ sizes.heads_room) (c.choose_from.auto.watches ∙ sizes.two_each) c.requires.clauses (linked_there (goal.at.link_from-requires-clause-in_range c).After-choose_from) c.choose_from.ensures.chosen
 
 pub link_from-requires-clause-linked : goal.link_from-requires-clause-linked
@@ -35,9 +35,9 @@ known_still : (R : List ℤ → ℤ → ℤ → Type 0) (c : After-link_from) �
 known_still R c h =
     EachBefore-same R c.args.clauses.now (watch_lits c.args.watches.now) (watch_lits c.link_from.new.watches) c.begin_at-begin.result.clause (same_before c) h
 
-new_chosen : (c : After-link_from) → EachFrom c.begin_at-begin.result.clause (IsChosen c.args.trail.now.puts) c.args.clauses.now (watch_lits c.link_from.new.watches)
+new_chosen : (c : After-link_from) → EachFrom c.begin_at-begin.result.clause (IsChosen c.args.trail.now.assignments) c.args.clauses.now (watch_lits c.link_from.new.watches)
 new_chosen c =
-    let P : List ℤ → Type 0 = λ ls. EachFrom c.begin_at-begin.result.clause (IsChosen c.args.trail.now.puts) c.args.clauses.now ls in
+    let P : List ℤ → Type 0 = λ ls. EachFrom c.begin_at-begin.result.clause (IsChosen c.args.trail.now.assignments) c.args.clauses.now ls in
     subst P (sym c.link_from.ensures.lits) c.choose_from.ensures.chosen
 
 pub returns-clause-below : goal.returns-clause-below
@@ -46,12 +46,12 @@ returns-clause-below c =
     let k = (goal.at.returns-clause-below c).After-link_from in
     let known = c.begin_at-begin.ensures.known c.args.clauses.now c.args.watches.now c.requires.known in
     begin_below c.args.clauses.now c.link_from.new.heads c.link_from.new.watches t c.begin_at-begin.result.clause c.vars.ensures.well_formed c.link_from.ensures.linked (known_still IsPair k known.pairs)
-    (λ n lt. known_still (IsWatched (lits (upto n t.puts)) (lits (upto n t.puts))) k (known.below n (c.begin_at-begin.ensures.standing n lt)))
+    (λ n lt. known_still (IsWatched (lits (upto n t.assignments)) (lits (upto n t.assignments))) k (known.below n (c.begin_at-begin.ensures.at_level n lt)))
     (new_chosen k) c.requires.none_false c.requires.none_unit
 
 pub returns-clause-old_clauses : goal.returns-clause-old_clauses
 returns-clause-old_clauses c =
-    let first = take c.begin_at-begin.result.literal (lits c.args.trail.now.puts) in
+    let first = take c.begin_at-begin.result.literal (lits c.args.trail.now.assignments) in
     let k = (goal.at.returns-clause-old_clauses c).After-link_from in
     let known = c.begin_at-begin.ensures.known c.args.clauses.now c.args.watches.now c.requires.known in
     known_still (IsWatched first first) k known.here

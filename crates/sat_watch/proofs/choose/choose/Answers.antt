@@ -1,7 +1,7 @@
 use Rattle.std.proofs.Common.{◌≡◌, ◌+◌, ◌<◌, ℤ, List, ◌∷◌, ◌++◌, [], length, take, ap, sym, ◌∙◌, subst, arith}
 use Rattle.std.proofs.lemmas.List.{take_more}
 use Rattle.sat_watch.specs.Watching.{IsChosen}
-use Rattle.sat_watch.proofs.Choosing.{apart_at, fresh_at, within_take}
+use Rattle.sat_watch.proofs.Choice.{apart_at, fresh_at, within_take}
 use Rattle.sat_watch.proofs.choose.choose.Goals as goal
 
 pub in_order-pair-requires-clause-differ : goal.in_order-pair-requires-clause-differ
@@ -25,5 +25,5 @@ loop-place-preserved c =
     let lit = c.index-clause-place.result in
     let lt : place < length clause = omega arith in
     let more : take (place + 1) clause ≡ take place clause ++ lit ∷ [] = take_more clause place lit lt ∙ ap (λ l. take place clause ++ l ∷ []) (sym c.index-clause-place.is) in
-    let P : List ℤ → Type 0 = λ ls. IsChosen c.args.trail.now.puts ls c.with_one_more-pair.result.first c.with_one_more-pair.result.second in
+    let P : List ℤ → Type 0 = λ ls. IsChosen c.args.trail.now.assignments ls c.with_one_more-pair.result.first c.with_one_more-pair.result.second in
     subst P (sym more) (c.with_one_more-pair.ensures (take place clause) (fresh_at clause place lit c.requires.distinct lt c.index-clause-place.is) c.loop-place.invariant)

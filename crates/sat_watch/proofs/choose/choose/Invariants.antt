@@ -4,4 +4,4 @@ use Rattle.sat_watch.proofs.choose.choose.Given as goal
 
 -- the choice among the literals so far
 abbrev pub invariant-loop-place : goal.invariant-loop-place
-invariant-loop-place l = IsChosen l.trail.puts (take l.place l.clause) l.pair.first l.pair.second
+invariant-loop-place l = IsChosen l.trail.assignments (take l.place l.clause) l.pair.first l.pair.second

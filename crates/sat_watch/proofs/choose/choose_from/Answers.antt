@@ -4,7 +4,7 @@ use Rattle.std.proofs.lemmas.List.{take-set-le}
 use Rattle.std.proofs.lemmas.Option.{slice_get-get_or, slice_get_within}
 use Rattle.sat_watch.specs.Links.{watch_lits}
 use Rattle.sat_watch.specs.Watching.{IsChosen}
-use Rattle.sat_watch.proofs.Pairing.{EachBetween, lits-set, length-lits, pair_written}
+use Rattle.sat_watch.proofs.Pairs.{EachBetween, lits-set, length-lits, pair_written}
 use Rattle.sat_watch.proofs.choose.choose_from.Goals as goal
 
 pub loop-place-preserved : goal.loop-place-preserved
@@ -18,7 +18,7 @@ loop-place-preserved c =
     let lt : place < length clauses = omega arith in
     let room : 2 * place + 1 < length (watch_lits watches) = omega (arith, length-lits watches, c.requires.two_each, c.loop-place.auto.watches) in
     let is : slice_get clauses place ≡ Some clause = slice_get-get_or clauses place clause lt ∙ ap Some (sym c.index-clauses-place.is) in
-    let Chosen : List ℤ → ℤ → ℤ → Type 0 = λ ls x y. IsChosen c.args.trail.now.puts ls x y in
+    let Chosen : List ℤ → ℤ → ℤ → Type 0 = λ ls x y. IsChosen c.args.trail.now.assignments ls x y in
     let C : List ℤ → Type 0 = λ ls. Chosen ls c.choose-pair.result.first c.choose-pair.result.second in
     let F : ℤ → Type 0 = λ x. Chosen clause x c.choose-pair.result.second in
     let S : ℤ → Type 0 = λ x. Chosen clause a.lit x in

@@ -2,8 +2,8 @@ use Rattle.std.proofs.Common.{◌≡◌, ℕ, Option, set, get_or, refl, ap, sym
 use Rattle.std.proofs.lemmas.Option.{get_or_from_slice_get}
 use Rattle.sat_watch.specs.declared.links.Watch.{Watch}
 use Rattle.sat_watch.specs.Links.{LeadsPast}
-use Rattle.sat_watch.specs.Slots.{slot}
-use Rattle.sat_watch.proofs.Moving.{previous_within}
+use Rattle.cnf_base.specs.Literal.{lit_index}
+use Rattle.sat_watch.proofs.Moves.{previous_within}
 use Rattle.sat_watch.proofs.links.lead_past.Goals as goal
 
 pub bounds-watches-before : goal.bounds-watches-before
@@ -19,10 +19,10 @@ returns-in-None c x here =
     let heads = c.args.heads.now in
     let watches = c.args.watches.now in
     let r = c.index-watches-watch.result in
-    let P : Option ℕ → Type 0 = λ o. LeadsPast heads watches x o (set heads c.slot.result (get_or watches c.args.watch r).next) watches in
+    let P : Option ℕ → Type 0 = λ o. LeadsPast heads watches x o (set heads c.index.result (get_or watches c.args.watch r).next) watches in
     let read = get_or_from_slice_get watches c.args.watch x r here in
-    let slot_is : c.slot.result ≡ slot x.lit = c.slot.ensures.place ∙ ap (λ (z : Watch). slot z.lit) (get_or_from_slice_get watches c.args.watch x c.index-watches-watch-in-None.result here) in
-    subst P (sym c.in-None.is) (ap (λ n. set heads n (get_or watches c.args.watch r).next) slot_is ∙ ap (λ (z : Watch). set heads (slot x.lit) z.next) read, refl)
+    let index_is : c.index.result ≡ lit_index x.lit = c.index.ensures.place ∙ ap (λ (z : Watch). lit_index z.lit) (get_or_from_slice_get watches c.args.watch x c.index-watches-watch-in-None.result here) in
+    subst P (sym c.in-None.is) (ap (λ n. set heads n (get_or watches c.args.watch r).next) index_is ∙ ap (λ (z : Watch). set heads (lit_index x.lit) z.next) read, refl)
 
 pub returns-in-Some : goal.returns-in-Some
 returns-in-Some c x here =

@@ -1,6 +1,6 @@
 use Rattle.std.proofs.Common.{◌<◌, length, refl, arith}
 use Rattle.sat_watch.specs.Links.{watch_lits}
-use Rattle.sat_watch.proofs.Linking.{linked_next}
+use Rattle.sat_watch.proofs.Lists.{linked_next}
 use Rattle.sat_watch.proofs.links.link_from.Goals as goal
 
 pub link_front-requires-clause-in_range : goal.link_front-requires-clause-in_range

@@ -1,5 +1,5 @@
 use Rattle.sat_watch.specs.Links.{watch_lits}
-use Rattle.sat_watch.proofs.Linking.{AreFirstLinked}
+use Rattle.sat_watch.proofs.Lists.{AreFirstLinked}
 use Rattle.sat_watch.proofs.links.link_from.Given as goal
 
 -- the watches so far are linked, and all have the literals that they had

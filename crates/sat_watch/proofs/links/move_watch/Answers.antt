@@ -1,4 +1,4 @@
-use Rattle.sat_watch.proofs.Moving.{moved}
+use Rattle.sat_watch.proofs.Moves.{moved}
 use Rattle.sat_watch.proofs.links.move_watch.Goals as goal
 
 pub returns : goal.returns

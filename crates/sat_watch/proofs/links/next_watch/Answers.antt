@@ -2,7 +2,7 @@ use Rattle.std.proofs.Common.{ℕ, Option, length, refl, ap, sym, ◌∙◌}
 use Rattle.std.specs.Option.{option_and_then}
 use Rattle.std.proofs.lemmas.Option.{slice_get_read}
 use Rattle.sat_watch.specs.declared.links.Watch.{Watch}
-use Rattle.sat_watch.proofs.Linking.{next_is}
+use Rattle.sat_watch.proofs.Lists.{next_is}
 use Rattle.sat_watch.proofs.links.next_watch.Goals as goal
 
 pub returns : goal.returns

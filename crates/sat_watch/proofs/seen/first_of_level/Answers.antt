@@ -1,6 +1,6 @@
 use Rattle.std.proofs.Common.{ℕ, ap, sym, ◌∙◌, arith}
 use Rattle.sat_watch.specs.declared.mark.Mark.{Mark}
-use Rattle.sat_watch.proofs.Seeing.{begins_from}
+use Rattle.sat_watch.proofs.SeenTrail.{begins_from}
 use Rattle.sat_watch.proofs.seen.first_of_level.Goals as goal
 
 pub returns-then-seen-first-clause-begins : goal.returns-then-seen-first-clause-begins

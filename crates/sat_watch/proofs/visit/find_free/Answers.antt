@@ -2,10 +2,10 @@ use Rattle.std.proofs.Common.{◌≡◌, false, true, ℤ, List, take, sym, ◌�
 use Rattle.std.proofs.lemmas.Bool.{not-true, not-false, both_ways}
 use Rattle.std.proofs.lemmas.Bool.Decides.{Decides-int_eq}
 use Rattle.std.specs.Ordering.{int_eq}
-use Rattle.cnf_base.specs.Judged.{has, IsFalseIn}
+use Rattle.cnf_base.specs.Status.{has, IsFalseIn}
 use Rattle.sat_trail.specs.Trail.{lits}
-use Rattle.sat_watch.proofs.Choosing.{has_at}
-use Rattle.sat_watch.proofs.Weighing.{in_push, more_seen, value_false}
+use Rattle.sat_watch.proofs.Choice.{has_at}
+use Rattle.sat_watch.proofs.Status.{in_push, more_seen, value_false}
 use Rattle.sat_watch.proofs.visit.find_free.Goals.{then-ne+in-False, else-ne}
 use Rattle.sat_watch.proofs.visit.find_free.Goals as goal
 
@@ -25,7 +25,7 @@ loop-lit-preserved c m there apart =
     let clause = c.args.clause.now in
     let i = c.loop-lit.lit-index in
     let lit = c.lit-item.result in
-    let true_lits = lits c.args.trail.now.puts in
+    let true_lits = lits c.args.trail.now.assignments in
     let P : List ℤ → Type 0 = λ ls. has ls m ≡ true in
     let Q : ℤ → Type 0 = λ x. IsFalseIn true_lits x in
     elim (in_push (take i clause) lit m (subst P (more_seen clause i lit c.loop-lit-test.true c.lit-item.is) there)) [

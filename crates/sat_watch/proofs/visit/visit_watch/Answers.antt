@@ -3,17 +3,17 @@ use Rattle.std.specs.List.{All}
 use Rattle.std.proofs.lemmas.Bool.{both_ways}
 use Rattle.std.proofs.lemmas.List.{get_or_default}
 use Rattle.std.proofs.lemmas.Option.{slice_get_within}
-use Rattle.cnf_base.specs.Judged.{has, IsFalseIn}
+use Rattle.cnf_base.specs.Status.{has, IsFalseIn}
 use Rattle.sat_trail.specs.declared.clause_id.ClauseId.TheVariants as ids
 use Rattle.sat_trail.specs.declared.truth.Value.TheVariants.{True, False, Unset}
 use Rattle.sat_trail.specs.Trail.{TrailState, lits}
 use Rattle.sat_watch.specs.Links.{watch_lits}
 use Rattle.sat_watch.specs.Watching.{IsFreeOf, sibling}
-use Rattle.sat_watch.proofs.Beginning.{in_vars, slot_within}
-use Rattle.sat_watch.proofs.Choosing.{free_from}
-use Rattle.sat_watch.proofs.Spreading.{lits-append, Spreads-one}
-use Rattle.sat_watch.proofs.Visiting.{StandsIn, stands_in, stands_within, own_lit, other_lit, all_false, unit_by_others}
-use Rattle.sat_watch.proofs.Weighing.{in_last, value_true}
+use Rattle.sat_watch.proofs.Start.{in_vars, slot_within}
+use Rattle.sat_watch.proofs.Choice.{free_from}
+use Rattle.sat_watch.proofs.Units.{lits-append, ExtendsByUnits-one}
+use Rattle.sat_watch.proofs.Visits.{StandsIn, stands_in, stands_within, own_lit, other_lit, all_false, unit_by_others}
+use Rattle.sat_watch.proofs.Status.{in_last, value_true}
 use Rattle.sat_watch.proofs.visit.visit_watch.Goals.{After-value-value, In-Some, In_default}
 use Rattle.sat_watch.proofs.visit.visit_watch.Goals as goal
 
@@ -42,7 +42,7 @@ returns-then-eq-clause-answer c =
     let clause = get_or c.args.clauses.now (c.args.watch / 2) [] in
     let is : clause ≡ get_or c.args.clauses.now (c.args.watch / 2) clause = sym (get_or_default c.args.clauses.now (c.args.watch / 2) clause [] (place_within k)) in
     let is_true : c.value-value.result ≡ True = search rules in
-    (refl, refl, (clause, (in_clause k clause is).there, (other, other_in k clause is, value_true (lits c.args.trail.now.puts) other (sym c.value-value.ensures ∙ is_true))))
+    (refl, refl, (clause, (in_clause k clause is).there, (other, other_in k clause is, value_true (lits c.args.trail.now.assignments) other (sym c.value-value.ensures ∙ is_true))))
 
 pub bounds-clauses-place : goal.bounds-clauses-place
 bounds-clauses-place c = place_within (goal.at.bounds-clauses-place c).After-value-value
@@ -54,14 +54,14 @@ find_free-requires c =
     subst P (sym c.as_slice.ensures) (λ i d lt. ((in_clause k c.index-clauses-place.result c.index-clauses-place.is).book.in_range i d lt).variable)
 
 -- what was found, in the clause itself
-found : (c : In-Some) → IsFreeOf (lits c.args.trail.now.puts) c.index-clauses-place.result (get_or c.args.watches.now c.sibling.result c.index-watches-sibling.result).lit c.in-Some.lit
+found : (c : In-Some) → IsFreeOf (lits c.args.trail.now.assignments) c.index-clauses-place.result (get_or c.args.watches.now c.sibling.result c.index-watches-sibling.result).lit c.in-Some.lit
 found c =
-    let P : List ℤ → Type 0 = λ ls. IsFreeOf (lits c.args.trail.now.puts) ls (get_or c.args.watches.now c.sibling.result c.index-watches-sibling.result).lit c.in-Some.lit in
+    let P : List ℤ → Type 0 = λ ls. IsFreeOf (lits c.args.trail.now.assignments) ls (get_or c.args.watches.now c.sibling.result c.index-watches-sibling.result).lit c.in-Some.lit in
     subst P c.as_slice.ensures c.in-Some.ensures
 
-nothing_found : (c : In_default) → (l : ℤ) → has c.index-clauses-place.result l ≡ true → l ≢ (get_or c.args.watches.now c.sibling.result c.index-watches-sibling.result).lit → IsFalseIn (lits c.args.trail.now.puts) l
+nothing_found : (c : In_default) → (l : ℤ) → has c.index-clauses-place.result l ≡ true → l ≢ (get_or c.args.watches.now c.sibling.result c.index-watches-sibling.result).lit → IsFalseIn (lits c.args.trail.now.assignments) l
 nothing_found c =
-    let P : List ℤ → Type 0 = λ ls. (l : ℤ) → has ls l ≡ true → l ≢ (get_or c.args.watches.now c.sibling.result c.index-watches-sibling.result).lit → IsFalseIn (lits c.args.trail.now.puts) l in
+    let P : List ℤ → Type 0 = λ ls. (l : ℤ) → has ls l ≡ true → l ≢ (get_or c.args.watches.now c.sibling.result c.index-watches-sibling.result).lit → IsFalseIn (lits c.args.trail.now.assignments) l in
     subst P c.as_slice.ensures c.in_default.ensures
 
 pub move_watch-requires-clause-in_range : goal.move_watch-requires-clause-in_range
@@ -74,7 +74,7 @@ move_watch-requires-clause-in_range c =
 pub move_watch-requires-clause-other : goal.move_watch-requires-clause-other
 move_watch-requires-clause-other c x here same =
     let k = goal.at.move_watch-requires-clause-other c in
-    let true_lits = lits c.args.trail.now.puts in
+    let true_lits = lits c.args.trail.now.assignments in
     let P : ℤ → Type 0 = λ l. has true_lits (neg_ℤ l) ≡ true in
     let free = free_from c.args.trail.now c.in-Some.lit c.vars.ensures.well_formed (found k.In-Some).not_false in
     both_ways (has true_lits (neg_ℤ c.in-Some.lit)) free (subst P (own_lit c.args.watches.now c.args.watch x here ∙ sym same) c.requires.falsified)
@@ -102,7 +102,7 @@ returns-then-eq-2-clause-answer c =
     let clause = c.index-clauses-place.result in
     let other = (get_or c.args.watches.now c.sibling.result c.index-watches-sibling.result).lit in
     let is_false : c.value-value.result ≡ False = search rules in
-    (refl, refl, (clause, (in_clause k.After-value-value clause c.index-clauses-place.is).there, all_false (lits c.args.trail.now.puts) clause other (sym c.value-value.ensures ∙ is_false) (nothing_found k.In_default)))
+    (refl, refl, (clause, (in_clause k.After-value-value clause c.index-clauses-place.is).there, all_false (lits c.args.trail.now.assignments) clause other (sym c.value-value.ensures ∙ is_false) (nothing_found k.In_default)))
 
 pub assume-requires-clause-in_range : goal.assume-requires-clause-in_range
 assume-requires-clause-in_range c =
@@ -111,14 +111,14 @@ assume-requires-clause-in_range c =
     let here = in_clause k.After-value-value clause c.index-clauses-place.is in
     in_vars c.args.trail.now.vars clause (get_or c.args.watches.now c.sibling.result c.index-watches-sibling.result).lit here.book (other_in k.After-value-value clause c.index-clauses-place.is)
 
-pub returns-clause-spreads : goal.returns-clause-spreads
-returns-clause-spreads c =
-    let k = goal.at.returns-clause-spreads c in
+pub returns-clause-by_units : goal.returns-clause-by_units
+returns-clause-by_units c =
+    let k = goal.at.returns-clause-by_units c in
     let clause = c.index-clauses-place.result in
     let other = (get_or c.args.watches.now c.sibling.result c.index-watches-sibling.result).lit in
     let is_open : c.value-value.result ≡ Unset = search rules in
-    let unit = unit_by_others (lits c.args.trail.now.puts) clause other (other_in k.After-value-value clause c.index-clauses-place.is) (sym c.value-value.ensures ∙ is_open) (nothing_found k.In_default) in
-    Spreads-one c.args.clauses.now c.args.trail.now c.assume.new.self (c.args.watch / 2) clause other (in_clause k.After-value-value clause c.index-clauses-place.is).there unit c.assume.ensures
+    let unit = unit_by_others (lits c.args.trail.now.assignments) clause other (other_in k.After-value-value clause c.index-clauses-place.is) (sym c.value-value.ensures ∙ is_open) (nothing_found k.In_default) in
+    ExtendsByUnits-one c.args.clauses.now c.args.trail.now c.assume.new.self (c.args.watch / 2) clause other (in_clause k.After-value-value clause c.index-clauses-place.is).there unit c.assume.ensures
 
 pub returns-clause-answer : goal.returns-clause-answer
 returns-clause-answer c =
@@ -126,5 +126,5 @@ returns-clause-answer c =
     let clause = c.index-clauses-place.result in
     let other = (get_or c.args.watches.now c.sibling.result c.index-watches-sibling.result).lit in
     let P : List ℤ → Type 0 = λ ls. has ls other ≡ true in
-    let after : lits c.assume.new.self.puts ≡ lits c.args.trail.now.puts ++ other ∷ [] = ap (λ (t : TrailState). lits t.puts) c.assume.ensures ∙ lits-append c.args.trail.now.puts (record { lit = other; level = c.args.trail.now.level; reason = Some (ids.Book (c.args.watch / 2)) } ∷ []) in
-    (refl, refl, (clause, (in_clause k.After-value-value clause c.index-clauses-place.is).there, (other, other_in k.After-value-value clause c.index-clauses-place.is, subst P (sym after) (in_last (lits c.args.trail.now.puts) other))))
+    let after : lits c.assume.new.self.assignments ≡ lits c.args.trail.now.assignments ++ other ∷ [] = ap (λ (t : TrailState). lits t.assignments) c.assume.ensures ∙ lits-append c.args.trail.now.assignments (record { lit = other; level = c.args.trail.now.level; reason = Some (ids.Book (c.args.watch / 2)) } ∷ []) in
+    (refl, refl, (clause, (in_clause k.After-value-value clause c.index-clauses-place.is).there, (other, other_in k.After-value-value clause c.index-clauses-place.is, subst P (sym after) (in_last (lits c.args.trail.now.assignments) other))))

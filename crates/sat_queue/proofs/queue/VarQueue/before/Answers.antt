@@ -1,8 +1,8 @@
 use Rattle.std.proofs.Common.{◌<◌, ◌≤◌, ℕ, List, length, reverse, ap, sym, ◌∙◌, subst, arith}
-use Rattle.sat_trail.proofs.Reading.{get_or_any}
+use Rattle.sat_trail.proofs.Lookup.{get_or_any}
 use Rattle.sat_queue.specs.Order.{follower}
 use Rattle.sat_queue.specs.Linked.{list_of, named}
-use Rattle.sat_queue.proofs.Ringing.{var_stands, before_is}
+use Rattle.sat_queue.proofs.Ring.{var_stands, before_is}
 use Rattle.sat_queue.proofs.queue.VarQueue.before.Goals as goal
 
 pub returns : goal.returns

@@ -1,7 +1,7 @@
 use Rattle.std.proofs.Common.{List, ℕ, sym, subst}
 use Rattle.std.specs.List.{range_with_len}
 use Rattle.sat_queue.specs.Linked.{IsRing}
-use Rattle.sat_queue.proofs.Ringing.{ring_new, list_of-ring}
+use Rattle.sat_queue.proofs.Ring.{ring_new, list_of-ring}
 use Rattle.sat_queue.proofs.queue.VarQueue.new.Goals as goal
 
 pub invariant_of-result : goal.invariant_of-result

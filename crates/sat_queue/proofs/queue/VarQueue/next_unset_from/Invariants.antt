@@ -10,7 +10,7 @@ invariant-loop-at l =
     let list = list_of l.self-inside.next.items in
     record {
       within : l.at ≤ length list;
-      same : find (is_unassigned l.trail.puts) (from_on l.var list) ≡ find (is_unassigned l.trail.puts) (from_on l.at list);
+      same : find (is_unassigned l.trail.assignments) (from_on l.var list) ≡ find (is_unassigned l.trail.assignments) (from_on l.at list);
     }
 
 abbrev pub decreases-loop-at : goal.decreases-loop-at

@@ -1,6 +1,6 @@
 use Rattle.std.proofs.Common.{◌≤◌, subst, arith}
 use Rattle.sat_trail.specs.Trail.{TrailState, IsTrail}
-use Rattle.sat_trail.proofs.Keeping.{whole_upto}
+use Rattle.sat_trail.proofs.Representation.{whole_upto}
 use Rattle.sat_trail.proofs.trail.Trail.back_to.Goals as goal
 
 pub returns-else-level-self : goal.returns-else-level-self

@@ -5,8 +5,8 @@ use Rattle.sat_trail.specs.declared.truth.Value.{Value}
 use Rattle.sat_trail.specs.declared.truth.Value.TheVariants.{Unset}
 use Rattle.sat_trail.specs.Trail.{TrailState, upto}
 use Rattle.sat_trail.specs.Kept.{state_of, kept_value}
-use Rattle.sat_trail.proofs.Valuing.{touches}
-use Rattle.sat_trail.proofs.Keeping.{Held, level_le_count, end_at, range_is, removed_in_range, IsKept-cut, view-cut}
+use Rattle.sat_trail.proofs.LiteralValues.{touches}
+use Rattle.sat_trail.proofs.Representation.{Held, level_le_count, end_at, range_is, removed_in_range, IsKept-cut, view-cut}
 use Rattle.sat_trail.proofs.trail.Trail.cut.Goals as goal
 
 pub index-end-requires : goal.index-end-requires
@@ -62,7 +62,7 @@ returns c =
     let Q : TrailState → Type 0 = λ t. c.args.level < t.level in
     let below = subst Q (sym c.self.view_is) c.requires in
     let end = c.index-end.result.now in
-    let F : TrailState → TrailState = λ t. record { vars = t.vars; puts = upto c.args.level t.puts; level = c.args.level; low = min t.low (length (upto c.args.level t.puts)) } in
+    let F : TrailState → TrailState = λ t. record { vars = t.vars; assignments = upto c.args.level t.assignments; level = c.args.level; low = min t.low (length (upto c.args.level t.assignments)) } in
     ap (λ n. state_of s.vars end c.args.level n s.causes.items s.lits.items) c.min-self-inside.ensures
     ∙ view-cut s.vars s.count s.level s.low c.args.level end s.causes.items s.lits.items s.values.items s.ends.items c.self.invariant below c.index-end.ensures
     ∙ ap F c.self.view_is

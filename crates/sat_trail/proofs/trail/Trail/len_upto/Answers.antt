@@ -1,8 +1,8 @@
 use Rattle.std.proofs.Common.{◌≡◌, length, take, map, ap, sym, ◌∙◌, subst, arith}
 use Rattle.sat_trail.specs.Trail.{TrailState, upto}
-use Rattle.sat_trail.specs.Kept.{put_from}
-use Rattle.sat_trail.proofs.Climbing.{upto-all}
-use Rattle.sat_trail.proofs.Keeping.{held_count, level_le_count, end_at}
+use Rattle.sat_trail.specs.Kept.{assignment_from}
+use Rattle.sat_trail.proofs.Levels.{upto-all}
+use Rattle.sat_trail.proofs.Representation.{held_count, level_le_count, end_at}
 use Rattle.sat_trail.proofs.trail.Trail.len_upto.Goals as goal
 
 pub index-requires : goal.index-requires
@@ -15,14 +15,14 @@ index-requires c =
 pub returns-then-level-self : goal.returns-then-level-self
 returns-then-level-self c =
     let s = c.self.inside in
-    let P : TrailState → Type 0 = λ t. c.index.result.now ≡ length (upto c.args.level t.puts) in
+    let P : TrailState → Type 0 = λ t. c.index.result.now ≡ length (upto c.args.level t.assignments) in
     subst P c.self.view_is (end_at s.vars s.count s.level s.low c.args.level c.index.result.now s.causes.items s.lits.items s.values.items s.ends.items c.self.invariant c.if-level-self.true c.index.ensures).0
 
 pub returns-else-level-self : goal.returns-else-level-self
 returns-else-level-self c =
     let s = c.self.inside in
-    let puts = map (put_from s.causes.items) (take s.count s.lits.items) in
-    let P : TrailState → Type 0 = λ t. s.count ≡ length (upto c.args.level t.puts) in
+    let assignments = map (assignment_from s.causes.items) (take s.count s.lits.items) in
+    let P : TrailState → Type 0 = λ t. s.count ≡ length (upto c.args.level t.assignments) in
     subst P c.self.view_is
     (sym (held_count s.vars s.count s.level s.low s.causes.items s.lits.items s.values.items s.ends.items c.self.invariant)
-    ∙ ap length (sym (upto-all c.args.level 0 puts s.level c.self.invariant.trail.climbs c.if-level-self.false)))
+    ∙ ap length (sym (upto-all c.args.level 0 assignments s.level c.self.invariant.trail.climbs c.if-level-self.false)))

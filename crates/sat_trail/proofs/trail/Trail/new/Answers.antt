@@ -1,6 +1,6 @@
 use Rattle.std.proofs.Common.{◌≡◌, ◌+◌, ◌*◌, length, replicate, arith, rules}
 use Rattle.sat_trail.specs.declared.truth.Value.TheVariants.{Unset}
-use Rattle.sat_trail.proofs.Keeping.{IsKept-new}
+use Rattle.sat_trail.proofs.Representation.{IsKept-new}
 use Rattle.sat_trail.proofs.trail.Trail.new.Goals as goal
 
 pub invariant_of-result : goal.invariant_of-result

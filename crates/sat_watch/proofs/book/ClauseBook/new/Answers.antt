@@ -1,7 +1,7 @@
 use Rattle.std.proofs.Common.{◌≡◌, ◌+◌, ◌*◌, true, ℕ, ℤ, Option, None, List, [], length, replicate, ap, sym, ◌∙◌, subst, arith}
 use Rattle.sat_watch.specs.declared.links.Watch.{Watch}
 use Rattle.sat_watch.specs.Kept.{IsKept}
-use Rattle.sat_watch.proofs.Keeping.{IsKept-new}
+use Rattle.sat_watch.proofs.Invariant.{IsKept-new}
 use Rattle.sat_watch.proofs.book.ClauseBook.new.Goals as goal
 
 pub invariant_of-result : goal.invariant_of-result

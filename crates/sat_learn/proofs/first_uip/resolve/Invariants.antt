@@ -1,0 +1,17 @@
+use Rattle.std.proofs.Common.{◌<◌}
+use Rattle.sat_learn.specs.Resolving.{IsLastMarked, Resolves}
+use Rattle.sat_learn.specs.Tracking.{IsTracked}
+use Rattle.sat_learn.proofs.first_uip.resolve.Given as goal
+
+-- the literal at the place so far is the last marked one
+abbrev pub invariant-loop-analysis : goal.invariant-loop-analysis
+invariant-loop-analysis l =
+    record {
+      tracked : IsTracked l.trail l.marks l.analysis.kept.items l.analysis.rooted l.analysis.open_count;
+      last : IsLastMarked l.trail l.marks l.at;
+      count : 0 < l.analysis.open_count;
+      resolves : Resolves l.book.clauses l.proof_ids l.trail.assignments l.initial.marks l.initial.analysis.hints.items l.marks l.analysis.hints.items;
+    }
+
+abbrev pub decreases-loop-analysis : goal.decreases-loop-analysis
+decreases-loop-analysis l = l.at

@@ -1,0 +1,167 @@
+//! Learning from a conflict.
+
+ghost use Rattle.std.specs.Prelude.{◌≡◌, [], ◌<◌, ◌≤◌, ◌-◌, ◌^◌, ℕ, ℤ, List, length, map, neg_ℤ, All, IfOk, IfSome};
+ghost use Rattle.cnf_base.specs.Status.{IsFalsifiedIn};
+ghost use Rattle.sat_trail.specs.Trail.{lits, upto};
+ghost use Rattle.sat_learn.specs.Explaining.{IsExplanation};
+ghost use Rattle.sat_learn.specs.Reasons.{AreReasons, HasId, HaveIds, Follows};
+ghost use Rattle.sat_learn.specs.Learned.{IsLearned};
+
+use crate::explanation::explain_marked;
+use crate::learned_clause::LearnedClause;
+use crate::minimize::Visit;
+use crate::resolution::{refute_marked, resolve_conflict};
+use cnf_base::Clause;
+use ketch_base::OutOfMemory;
+use lrat_text::Hints;
+use sat_trail::Trail;
+use sat_watch::ClauseBook;
+use std::alloc::Global;
+use std::marker::Model;
+
+/// Resolves conflicts over the variables 1 to `vars`, at most 4,000,000, which contracts see as that number.
+#[derive(Debug, Drop)]
+pub struct Analyzer {
+    vars: u32,
+    alloc: Global,
+    marks: Vec<bool>,
+    visits: Vec<Visit>,
+}
+
+impl Model for Analyzer {
+    ghost use Rattle.std.specs.Prelude.{◌≡◌, ℕ, ◌+◌, false, replicate, length, ◌≤◌};
+
+    ghost Value = { ℕ };
+
+    ghost view = { λ l. l.vars };
+
+    ghost invariant = { λ l. (l.vars ≤ 4000000) × (l.marks.items ≡ replicate (l.vars + 1) false)
+        × (length l.visits.items ≡ l.vars + 1) };
+}
+
+impl Analyzer {
+    pub fn new(alloc: Global, vars: u32) -> Result<Analyzer, OutOfMemory>
+        requires { vars ≤ 4000000 }
+        ensures { IfOk result (λ analyzer. analyzer ≡ vars) }
+    {
+        let marks = vec![in alloc; false; vars as usize + 1]?;
+        let visits = vec![in alloc; Visit::Unknown; vars as usize + 1]?;
+        Ok(Analyzer {
+            vars,
+            alloc,
+            marks,
+            visits,
+        })
+    }
+
+    /// The clause to learn from one that is false, above level 0, where the literals below the present level don't make
+    /// it false. `id` is its id in the proof, and `proof_ids` has the ids of the book's clauses.
+    pub fn analyze(
+        &mut self,
+        trail: &Trail,
+        book: &ClauseBook,
+        proof_ids: &[u64],
+        conflict: &Clause,
+        id: u64,
+    ) -> Result<LearnedClause, OutOfMemory>
+        requires vars { trail.now.vars ≡ self.old }
+        requires above { 0 < trail.now.level }
+        requires reasons { AreReasons book.now.clauses [] trail.now.assignments }
+        requires proof_ids { length proof_ids.now ≡ length book.now.clauses }
+        requires small_ids { All (λ name. name < 2 ^ 62) proof_ids.now }
+        requires small { id < 2 ^ 62 }
+        requires false_now { IsFalsifiedIn (lits trail.now.assignments) conflict.now }
+        requires not_before { ¬ IsFalsifiedIn (lits (upto (trail.now.level - 1) trail.now.assignments)) conflict.now }
+        ensures vars { self.new ≡ self.old }
+        ensures learned { IfOk result (IsLearned trail.now) }
+        ensures follows { IfOk result (λ learned. (live : List (ℕ × List ℤ)) → HaveIds live book.now.clauses proof_ids.now trail.now.assignments
+            → HasId live id conflict.now → Follows live (map neg_ℤ learned.lits) learned.hints) }
+    {
+        // for what it says of the trail
+        let _ = trail.len();
+        match resolve_conflict(
+            self.alloc,
+            trail,
+            book,
+            proof_ids,
+            &mut self.marks,
+            &mut self.visits,
+            conflict.as_slice(),
+            id as i64,
+        ) {
+            Ok(learned) => Ok(learned),
+            Err(OutOfMemory) => {
+                self.marks.fill(false);
+                self.visits.fill(Visit::Unknown);
+                Err(OutOfMemory)
+            }
+        }
+    }
+
+    /// The hints by which the empty clause follows from one that is false at level 0.
+    pub fn refute(
+        &mut self,
+        trail: &Trail,
+        book: &ClauseBook,
+        proof_ids: &[u64],
+        conflict: &Clause,
+        id: u64,
+    ) -> Result<Hints, OutOfMemory>
+        requires vars { trail.now.vars ≡ self.old }
+        requires at_root { trail.now.level ≡ 0 }
+        requires reasons { AreReasons book.now.clauses [] trail.now.assignments }
+        requires proof_ids { length proof_ids.now ≡ length book.now.clauses }
+        requires small_ids { All (λ name. name < 2 ^ 62) proof_ids.now }
+        requires small { id < 2 ^ 62 }
+        requires false_now { IsFalsifiedIn (lits trail.now.assignments) conflict.now }
+        ensures vars { self.new ≡ self.old }
+        ensures follows { IfOk result (λ hints. (live : List (ℕ × List ℤ)) → HaveIds live book.now.clauses proof_ids.now trail.now.assignments
+            → HasId live id conflict.now → Follows live [] hints) }
+    {
+        // for what it says of the trail
+        let _ = trail.len();
+        match refute_marked(
+            self.alloc,
+            trail,
+            book,
+            proof_ids,
+            &mut self.marks,
+            conflict.as_slice(),
+            id as i64,
+        ) {
+            Ok(hints) => Ok(hints),
+            Err(OutOfMemory) => {
+                self.marks.fill(false);
+                Err(OutOfMemory)
+            }
+        }
+    }
+
+    /// The hints for the unit clause of the literal at this place of the trail, which is of level 0. None where the clauses
+    /// that imply it go more than 500 deep.
+    pub fn explain(
+        &mut self,
+        trail: &Trail,
+        book: &ClauseBook,
+        proof_ids: &[u64],
+        place: u32,
+    ) -> Result<Option<Hints>, OutOfMemory>
+        requires vars { trail.now.vars ≡ self.old }
+        requires reasons { AreReasons book.now.clauses [] trail.now.assignments }
+        requires proof_ids { length proof_ids.now ≡ length book.now.clauses }
+        requires small_ids { All (λ name. name < 2 ^ 62) proof_ids.now }
+        requires at_root { place < length (upto 0 trail.now.assignments) }
+        ensures vars { self.new ≡ self.old }
+        ensures follows { IfOk result (λ found. IfSome found (IsExplanation book.now.clauses proof_ids.now trail.now.assignments place)) }
+    {
+        // for what it says of the trail
+        let _ = trail.len();
+        match explain_marked(self.alloc, trail, book, proof_ids, &mut self.marks, place) {
+            Ok(found) => Ok(found),
+            Err(OutOfMemory) => {
+                self.marks.fill(false);
+                Err(OutOfMemory)
+            }
+        }
+    }
+}

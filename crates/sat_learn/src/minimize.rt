@@ -1,0 +1,267 @@
+//! Literals that the others imply, found by a walk on which no proof rests, and resolved away one by one.
+
+ghost use Rattle.std.specs.Prelude.{◌≡◌, ℕ, ℤ, ◌+◌, ◌<◌, ◌≤◌, IsTrue, neg_ℤ, nat_abs, length, IfOk, OnOk};
+ghost use Rattle.cnf_base.specs.Status.{has};
+ghost use Rattle.sat_trail.specs.Trail.{lits, IsTrail};
+ghost use Rattle.sat_learn.specs.Resolving.{is_marked, Resolves, IsExplained};
+ghost use Rattle.sat_learn.specs.Tracking.{IsTracked, IsFirstUip};
+
+use crate::analysis::{Analysis, level_of_false, note_all};
+use crate::antecedent::{DEPTH, find_antecedent};
+use cnf_base::CnfLit;
+use ketch_base::OutOfMemory;
+use sat_trail::Trail;
+use sat_watch::ClauseBook;
+use std::alloc::Global;
+
+/// What a walk found of a variable.
+#[derive(Clone, Copy, Debug)]
+pub enum Visit {
+    Unknown,
+    /// All that it comes from is marked, of level 0, or removable.
+    Removable,
+    Stays,
+}
+
+/// Resolves a marked literal with its antecedent, if it has one and is of a level below the present one.
+fn resolve_earlier(
+    trail: &Trail,
+    book: &ClauseBook,
+    proof_ids: &[u64],
+    marks: &mut [bool],
+    analysis: &mut Analysis,
+    lit: CnfLit,
+) -> Result<(), OutOfMemory>
+    requires explained { IsExplained book.now.clauses proof_ids.now trail.now }
+    requires tracked { IsTracked trail.now marks.old analysis.old.kept.items analysis.old.rooted analysis.old.open_count }
+    requires false_now { IsTrue (has (lits trail.now.assignments) (neg_ℤ lit)) }
+    requires marked { IsTrue (is_marked marks.old lit) }
+    ensures tracked { OnOk result (IsTracked trail.now marks.new analysis.new.kept.items analysis.new.rooted analysis.new.open_count) }
+    ensures count { OnOk result (analysis.new.open_count ≡ analysis.old.open_count) }
+    ensures first_uip { OnOk result ((place : ℕ) → IsFirstUip trail.now marks.old place → IsFirstUip trail.now marks.new place) }
+    ensures resolves { OnOk result (Resolves book.now.clauses proof_ids.now trail.now.assignments marks.old analysis.old.hints.items marks.new analysis.new.hints.items) }
+{
+    if level_of_false(trail, lit) >= trail.level() {
+        return Ok(());
+    }
+    match find_antecedent(trail, book, proof_ids, lit.var()) {
+        None => Ok(()),
+        Some(found) => {
+            analysis.hints.push(found.hint)?;
+            note_all(trail, marks, analysis, found.lits)?;
+            marks[lit.var() as usize] = false;
+            Ok(())
+        }
+    }
+}
+
+/// Resolves the literal away where the walk found that it can be, and forgets what it found.
+fn resolve_if_removable(
+    trail: &Trail,
+    book: &ClauseBook,
+    proof_ids: &[u64],
+    marks: &mut [bool],
+    visits: &mut [Visit],
+    analysis: &mut Analysis,
+    lit: CnfLit,
+) -> Result<(), OutOfMemory>
+    requires explained { IsExplained book.now.clauses proof_ids.now trail.now }
+    requires tracked { IsTracked trail.now marks.old analysis.old.kept.items analysis.old.rooted analysis.old.open_count }
+    requires room { length visits.old ≡ trail.now.vars + 1 }
+    requires false_now { IsTrue (has (lits trail.now.assignments) (neg_ℤ lit)) }
+    ensures tracked { OnOk result (IsTracked trail.now marks.new analysis.new.kept.items analysis.new.rooted analysis.new.open_count) }
+    ensures count { OnOk result (analysis.new.open_count ≡ analysis.old.open_count) }
+    ensures first_uip { OnOk result ((place : ℕ) → IsFirstUip trail.now marks.old place → IsFirstUip trail.now marks.new place) }
+    ensures resolves { OnOk result (Resolves book.now.clauses proof_ids.now trail.now.assignments marks.old analysis.old.hints.items marks.new analysis.new.hints.items) }
+{
+    let place = lit.var() as usize;
+    let found = visits[place];
+    visits[place] = Visit::Unknown;
+    if !marks[place] {
+        return Ok(());
+    }
+    match found {
+        Visit::Unknown => Ok(()),
+        Visit::Stays => Ok(()),
+        Visit::Removable => {
+            resolve_earlier(trail, book, proof_ids, marks, analysis, lit)?;
+            Ok(())
+        }
+    }
+}
+
+/// Resolves away what the walk visited and found removable, from the last to the first.
+fn resolve_visited(
+    trail: &Trail,
+    book: &ClauseBook,
+    proof_ids: &[u64],
+    marks: &mut [bool],
+    visits: &mut [Visit],
+    analysis: &mut Analysis,
+    visited: &[CnfLit],
+) -> Result<(), OutOfMemory>
+    requires explained { IsExplained book.now.clauses proof_ids.now trail.now }
+    requires tracked { IsTracked trail.now marks.old analysis.old.kept.items analysis.old.rooted analysis.old.open_count }
+    requires room { length visits.old ≡ trail.now.vars + 1 }
+    requires false_now { (l : ℤ) → IsTrue (has visited.now l) → IsTrue (has (lits trail.now.assignments) (neg_ℤ l)) }
+    ensures tracked { OnOk result (IsTracked trail.now marks.new analysis.new.kept.items analysis.new.rooted analysis.new.open_count) }
+    ensures count { OnOk result (analysis.new.open_count ≡ analysis.old.open_count) }
+    ensures first_uip { OnOk result ((place : ℕ) → IsFirstUip trail.now marks.old place → IsFirstUip trail.now marks.new place) }
+    ensures resolves { OnOk result (Resolves book.now.clauses proof_ids.now trail.now.assignments marks.old analysis.old.hints.items marks.new analysis.new.hints.items) }
+{
+    let mut index = visited.len();
+    while index > 0 {
+        index -= 1;
+        resolve_if_removable(
+            trail,
+            book,
+            proof_ids,
+            marks,
+            visits,
+            analysis,
+            visited[index],
+        )?;
+    }
+    Ok(())
+}
+
+/// A level's place among 64.
+fn bit_of(level: u32) -> u64 {
+    1 << (level % 64)
+}
+
+/// The levels of these literals, folded into 64.
+fn levels_of(trail: &Trail, kept: &[CnfLit]) -> u64
+    requires trail { IsTrail trail.now }
+    requires false_now { (l : ℤ) → IsTrue (has kept.now l) → IsTrue (has (lits trail.now.assignments) (neg_ℤ l)) }
+{
+    let mut levels = 0;
+    for lit in kept {
+        levels |= bit_of(level_of_false(trail, *lit));
+    }
+    levels
+}
+
+/// Whether the literal needn't stand in the clause, or is marked. What is visited on the way is noted, each literal after
+/// those that it comes from.
+///
+/// At a level that is not among `levels` no literal is marked, so a literal of this level is not implied by marked ones.
+fn walk(
+    trail: &Trail,
+    book: &ClauseBook,
+    proof_ids: &[u64],
+    marks: &[bool],
+    visits: &mut [Visit],
+    visited: &mut Vec<CnfLit>,
+    levels: u64,
+    lit: CnfLit,
+    depth: u32,
+) -> Result<bool, OutOfMemory>
+    requires explained { IsExplained book.now.clauses proof_ids.now trail.now }
+    requires room { length marks.now ≡ trail.now.vars + 1 }
+    requires room_too { length visits.old ≡ trail.now.vars + 1 }
+    requires false_now { IsTrue (has (lits trail.now.assignments) (neg_ℤ lit)) }
+    requires all_false { (l : ℤ) → IsTrue (has visited.old.items l) → IsTrue (has (lits trail.now.assignments) (neg_ℤ l)) }
+    ensures { OnOk result ((l : ℤ) → IsTrue (has visited.new.items l) → IsTrue (has (lits trail.now.assignments) (neg_ℤ l))) }
+{
+    let place = lit.var() as usize;
+    match visits[place] {
+        Visit::Removable => return Ok(true),
+        Visit::Stays => return Ok(marks[place]),
+        Visit::Unknown => {}
+    }
+    let level = level_of_false(trail, lit);
+    if level == 0 {
+        return Ok(true);
+    }
+    if depth == 0 || levels & bit_of(level) == 0 {
+        return Ok(marks[place]);
+    }
+    let Some(found) = find_antecedent(trail, book, proof_ids, lit.var()) else {
+        return Ok(marks[place]);
+    };
+    let mut removable = true;
+    for other in found.lits {
+        if other.var() != lit.var() {
+            let goes = walk(
+                trail,
+                book,
+                proof_ids,
+                marks,
+                visits,
+                visited,
+                levels,
+                *other,
+                depth - 1,
+            )?;
+            if !goes {
+                removable = false;
+                break;
+            }
+        }
+    }
+    visits[place] = if removable {
+        Visit::Removable
+    } else {
+        Visit::Stays
+    };
+    visited.push(lit)?;
+    Ok(removable || marks[place])
+}
+
+/// Walks down from each of these literals: what was visited, each literal after those that it comes from.
+fn walk_all(
+    alloc: Global,
+    trail: &Trail,
+    book: &ClauseBook,
+    proof_ids: &[u64],
+    marks: &[bool],
+    visits: &mut [Visit],
+    kept: &[CnfLit],
+) -> Result<Vec<CnfLit>, OutOfMemory>
+    requires explained { IsExplained book.now.clauses proof_ids.now trail.now }
+    requires room { length marks.now ≡ trail.now.vars + 1 }
+    requires room_too { length visits.old ≡ trail.now.vars + 1 }
+    requires false_now { (l : ℤ) → IsTrue (has kept.now l) → IsTrue (has (lits trail.now.assignments) (neg_ℤ l)) }
+    ensures { IfOk result (λ visited. (l : ℤ) → IsTrue (has visited.items l) → IsTrue (has (lits trail.now.assignments) (neg_ℤ l))) }
+{
+    let levels = levels_of(trail, kept);
+    let mut visited = Vec::new(alloc);
+    for lit in kept {
+        walk(
+            trail,
+            book,
+            proof_ids,
+            marks,
+            visits,
+            &mut visited,
+            levels,
+            *lit,
+            DEPTH,
+        )?;
+    }
+    Ok(visited)
+}
+
+/// Resolves away the kept literals that the other marked ones imply.
+pub fn minimize_clause(
+    alloc: Global,
+    trail: &Trail,
+    book: &ClauseBook,
+    proof_ids: &[u64],
+    marks: &mut [bool],
+    visits: &mut [Visit],
+    analysis: &mut Analysis,
+) -> Result<(), OutOfMemory>
+    requires explained { IsExplained book.now.clauses proof_ids.now trail.now }
+    requires tracked { IsTracked trail.now marks.old analysis.old.kept.items analysis.old.rooted analysis.old.open_count }
+    requires room { length visits.old ≡ trail.now.vars + 1 }
+    ensures tracked { OnOk result (IsTracked trail.now marks.new analysis.new.kept.items analysis.new.rooted analysis.new.open_count) }
+    ensures count { OnOk result (analysis.new.open_count ≡ analysis.old.open_count) }
+    ensures first_uip { OnOk result ((place : ℕ) → IsFirstUip trail.now marks.old place → IsFirstUip trail.now marks.new place) }
+    ensures resolves { OnOk result (Resolves book.now.clauses proof_ids.now trail.now.assignments marks.old analysis.old.hints.items marks.new analysis.new.hints.items) }
+{
+    let visited = walk_all(alloc, trail, book, proof_ids, marks, visits, &analysis.kept)?;
+    resolve_visited(trail, book, proof_ids, marks, visits, analysis, &visited)?;
+    Ok(())
+}
