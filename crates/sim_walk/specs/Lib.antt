@@ -1,0 +1,3 @@
+pub mod FirstVisits
+pub mod Walk
+pub mod Zero
