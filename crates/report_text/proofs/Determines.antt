@@ -1,5 +1,5 @@
 -- A report's text tells the report.
-use Rattle.std.proofs.Common.{◌≡◌, ℕ, List, [], ◌∷◌, ◌++◌, refl, sym, subst₂}
+use Rattle.std.proofs.Common.{◌≡◌, ℕ, List, [], ◌∷◌, ◌++◌, refl, sym, ◌∙◌, subst₂}
 use Rattle.std.specs.Prelude.{codes}
 use Rattle.report_text.specs.declared.report.Report.{Report}
 use Rattle.report_text.specs.Form.{FitsEntry, FitsBlock, HasForm, OneReport}
@@ -42,6 +42,9 @@ report-plain r f =
     (all-append IsLine batch_lines _ batch-plain
     (all-append IsLine (goals_lines r.goals) _ ((goals-is_spelling r.inputs r.latches).plain r.goals (goals-counted r f)) (all-append IsLine query_lines (end_words r ∷ []) query-plain (end-is_line r f, tt)))))
 
+none : {A : Type 0} {xs ys : List A} → xs ≡ [] → ys ≡ [] → xs ≡ ys
+none p q = p ∙ sym q
+
 lines-tell : (r s : Report) → HasForm r → HasForm s → report_lines r ≡ report_lines s → r ≡ s
 unfolding report_lines
 lines-tell r s f g e =
@@ -58,7 +61,11 @@ lines-tell r s f g e =
       signals = head.0.signals i;
       options = head.0.options i;
       history = entries.0 i;
+      seeds = none (f.seeds) (g.seeds) i;
+      invs = none (f.invs) (g.invs) i;
       goals = blocks.0 i;
+      spents = none (f.spents) (g.spents) i;
+      refutes = none (f.refutes) (g.refutes) i;
       reached = counts.reached i;
       unreachable = counts.unreachable i;
       unsettled = counts.unsettled i;

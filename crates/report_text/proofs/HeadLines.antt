@@ -2,7 +2,7 @@
 use Rattle.std.proofs.Common.{◌≡◌, ℕ, ◌<◌, ◌^◌, Bool, true, false, List, [], ◌∷◌, ◌++◌, refl, arith}
 use Rattle.std.specs.Prelude.{codes}
 use Rattle.aig_model.specs.Literal.{number}
-use Rattle.report_text.specs.declared.options.Options.{Options}
+use Rattle.sim_walk.specs.declared.options.Options.{Options}
 use Rattle.report_text.specs.declared.report.Report.{Report}
 use Rattle.report_text.specs.Form.{FitsOptions, HasForm}
 use Rattle.report_text.specs.Text.{Line, size_words, options_words, head_lines, end_words}

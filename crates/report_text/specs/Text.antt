@@ -5,10 +5,10 @@ use Rattle.aig_model.specs.Literal.{number}
 use Rattle.aig_model.specs.declared.parts.Kind.{Kind}
 use Rattle.aig_model.specs.declared.parts.Kind.TheVariants as kinds
 use Rattle.aig_model.specs.declared.trace.Trace.{Trace}
-use Rattle.report_text.specs.declared.options.Options.{Options}
-use Rattle.report_text.specs.declared.report.Source.{Source}
-use Rattle.report_text.specs.declared.report.Source.TheVariants as sources
-use Rattle.report_text.specs.declared.report.Entry.{Entry}
+use Rattle.sim_walk.specs.declared.options.Options.{Options}
+use Rattle.board_core.specs.declared.entry.Source.{Source}
+use Rattle.board_core.specs.declared.entry.Source.TheVariants as sources
+use Rattle.board_core.specs.declared.entry.Entry.{Entry}
 use Rattle.report_text.specs.declared.report.HopBound.{HopBound}
 use Rattle.report_text.specs.declared.report.HopBound.TheVariants as hop_bounds
 use Rattle.report_text.specs.declared.report.GoalBlock.{GoalBlock}
@@ -61,6 +61,11 @@ kind_text kinds.Unreachable = codes "u"
 
 unfoldable pub source_text : Source → Word
 source_text sources.Zero = codes "zero"
+source_text (sources.Walk b) = codes "walk:" ++ decimal b
+source_text sources.Sweep = codes "sweep"
+source_text (sources.Hop b) = codes "hop:" ++ decimal b
+source_text (sources.Again r) = codes "again:" ++ decimal r
+source_text sources.Proved = codes "proved"
 
 unfoldable pub entry_words : Entry → Line
 entry_words e = decimal e.number ∷ decimal e.caller ∷ decimal e.goal ∷ kind_text e.kind ∷ source_text e.source ∷ decimal e.low ∷ []
@@ -101,7 +106,7 @@ block_lines goal (blocks.Open depth hops strength) = open_words goal depth hops 
 abbrev pub goals_lines : List GoalBlock → List Line
 goals_lines bs = section_lines (codes "goals") block_lines bs
 
--- ---- the sections of what isn't built: no item stands in them
+-- ---- sections whose items have no lines yet: a report that has the form has none
 unfoldable pub batch_lines : List Line
 batch_lines = (codes "seeds" ∷ codes "0" ∷ []) ∷ (codes "invs" ∷ codes "0" ∷ []) ∷ []
 

@@ -2,12 +2,13 @@
 #![tactic(auto)]
 
 mod laws;
-mod options;
 mod report;
 mod text;
 mod text_writer;
 
 pub use laws::one_report;
-pub use options::Options;
-pub use report::{Entries, Entry, GoalBlock, GoalBlocks, HopBound, HopBounds, Report, Source};
+pub use report::{
+    Block, BlockName, Blocks, GoalBlock, GoalBlocks, HopBound, HopBounds, Inv, Invs, Report,
+    SeedLine, SeedLines,
+};
 pub use text::text_of;

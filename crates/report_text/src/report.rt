@@ -1,29 +1,10 @@
 //! What a report says.
 
-use crate::options::Options;
-use aig_model::{Kind, Trace};
+use aig_model::{Bits, Goals, LatchClauses, Rows, Trace};
+use board_core::Entries;
 use ketch_base::Sequence;
-
-/// What settled a goal.
-#[derive(Clone, Copy, Debug, PartialEq, Eq)]
-pub enum Source {
-    /// The walk from reset with all inputs and free latches 0.
-    Zero,
-}
-
-/// One entry of the history: a post for a goal.
-#[derive(Clone, Copy, Debug, PartialEq, Eq)]
-pub struct Entry {
-    pub number: u64,
-    pub caller: u32,
-    pub goal: u32,
-    pub kind: Kind,
-    pub source: Source,
-    /// How much of the history the caller had seen.
-    pub low: u64,
-}
-
-pub type Entries = Sequence<Entry>;
+use lrat_text::{Proof, Proofs};
+use sim_walk::Options;
 
 /// How far the search from a batch's seed went: to a step, not even to step 0, or there was no seed.
 #[derive(Clone, Copy, Debug, PartialEq, Eq)]
@@ -52,6 +33,48 @@ pub enum GoalBlock {
 
 pub type GoalBlocks = Sequence<GoalBlock>;
 
+/// The seed of a batch: a start, the rows of inputs that lead from it, and the state that they end in.
+#[derive(Debug, Drop)]
+pub struct SeedLine {
+    pub start: Bits,
+    pub rows: Rows,
+    pub state: Bits,
+}
+
+/// One for each batch; None where no lane of it visits a step.
+pub type SeedLines = Sequence<Option<SeedLine>>;
+
+/// Clauses that every reset state satisfies, and for each the proof that a step keeps it.
+#[derive(Debug, Drop)]
+pub struct Inv {
+    pub clauses: LatchClauses,
+    pub kept: Proofs,
+}
+
+pub type Invs = Sequence<Inv>;
+
+/// The formula of a query: of the sweep or of a hop at a step, that clause `place` is kept, or that
+/// the clauses exclude a goal.
+#[derive(Debug, Drop)]
+pub enum BlockName {
+    Sweep { step: u32 },
+    Hop { batch: u32, step: u32 },
+    Kept { place: u32, clauses: LatchClauses },
+    Excludes { goal: u32, clauses: LatchClauses },
+}
+
+/// A query with its proof. `blocked` are the goals that the search leaves out; the others have none.
+#[derive(Debug, Drop)]
+pub struct Block {
+    pub name: BlockName,
+    pub blocked: Goals,
+    pub proof: Proof,
+}
+
+pub type Blocks = Sequence<Block>;
+
+/// The queries of `spents` ran out of lemmas; those of `refutes` have no model. The last three
+/// numbers count the goals.
 #[derive(Debug, Drop)]
 pub struct Report {
     pub inputs: u32,
@@ -59,7 +82,11 @@ pub struct Report {
     pub signals: u32,
     pub options: Options,
     pub history: Entries,
+    pub seeds: SeedLines,
+    pub invs: Invs,
     pub goals: GoalBlocks,
+    pub spents: Blocks,
+    pub refutes: Blocks,
     pub reached: u32,
     pub unreachable: u32,
     pub unsettled: u32,

@@ -1,14 +1,15 @@
 //! The text of a report.
 
-ghost use Rattle.std.specs.Prelude.{◌≡◌, ◌<◌, [], ◌∷◌, ◌++◌, length, slice_index_or, OnOk, IfOk};
+ghost use Rattle.std.specs.Prelude.{◌≡◌, ◌<◌, [], ◌∷◌, ◌++◌, length, decimal, slice_index_or, OnOk, IfOk};
 ghost use Rattle.std.specs.List.{flat_map};
 ghost use Rattle.report_text.specs.Text.{line, text, size_words, options_words, kind_text, source_text, entry_words, history_lines, bits_words, witness_lines, bound_text, hop_text, open_words, block_lines, goals_lines, end_words, report_text};
 
-use crate::options::Options;
-use crate::report::{Entries, Entry, GoalBlock, GoalBlocks, HopBound, HopBounds, Report, Source};
+use crate::report::{GoalBlock, GoalBlocks, HopBound, HopBounds, Report};
 use crate::text_writer::TextWriter;
 use aig_model::{Bits, Kind, Rows, Trace};
+use board_core::{Entries, Entry, Source};
 use ketch_base::OutOfMemory;
+use sim_walk::Options;
 use std::alloc::Global;
 
 #[tactic(auto, unfolding(crate::specs::Text::size_words))]
@@ -54,12 +55,26 @@ fn kind_word(kind: Kind) -> &'static str
     }
 }
 
+/// A word that ends in a number.
+fn write_numbered(out: &mut TextWriter, word: &str, n: u32) -> Result<(), OutOfMemory>
+    ensures { OnOk result (out.new ≡ out.old ++ 32 ∷ (word.now ++ decimal n)) }
+{
+    out.next_word(word)?;
+    out.number(n.into())?;
+    Ok(())
+}
+
 #[tactic(auto, unfolding(crate::specs::Text::source_text))]
-fn source_word(source: Source) -> &'static str
-    ensures { result.now ≡ source_text source }
+fn write_source(out: &mut TextWriter, source: Source) -> Result<(), OutOfMemory>
+    ensures { OnOk result (out.new ≡ out.old ++ 32 ∷ source_text source) }
 {
     match source {
-        Source::Zero => "zero",
+        Source::Zero => out.next_word("zero"),
+        Source::Walk(batch) => write_numbered(out, "walk:", batch),
+        Source::Sweep => out.next_word("sweep"),
+        Source::Hop(batch) => write_numbered(out, "hop:", batch),
+        Source::Again(round) => write_numbered(out, "again:", round),
+        Source::Proved => out.next_word("proved"),
     }
 }
 
@@ -71,7 +86,7 @@ fn write_entry(out: &mut TextWriter, entry: &Entry) -> Result<(), OutOfMemory>
     out.next_number(entry.caller.into())?;
     out.next_number(entry.goal.into())?;
     out.next_word(kind_word(entry.kind))?;
-    out.next_word(source_word(entry.source))?;
+    write_source(out, entry.source)?;
     out.next_number(entry.low)?;
     out.end_line()?;
     Ok(())
@@ -247,98 +262,4 @@ pub fn text_of(alloc: Global, report: &Report) -> Result<Vec<u8>, OutOfMemory>
     out.word("spents 0\nrefutes 0\n")?;
     write_end(&mut out, report)?;
     Ok(out.into_bytes())
-}
-
-#[cfg(test)]
-mod tests {
-    use super::*;
-    use ketch_base::Sequence;
-    use std::test::Fail;
-
-    const TOGGLE: &str = "ketch 1
-size 0 1 1
-options 0 0 1000 100 4 1 20000 0 0 0
-history 2
-0 0 0 r zero 0
-1 0 1 r zero 1
-seeds 0
-invs 0
-goals 2
-goal 0 reached 0
-1
-b0
-0
-
-.
-goal 1 reached 1
-1
-b1
-0
-
-
-.
-spents 0
-refutes 0
-end 2 0 0
-";
-
-    fn entry(number: u64, goal: u32) -> Entry {
-        Entry {
-            number,
-            caller: 0,
-            goal,
-            kind: Kind::Reached,
-            source: Source::Zero,
-            low: number,
-        }
-    }
-
-    /// Reached from the one latch at 0, after one row of no inputs or two.
-    fn block(alloc: Global, number: u64, two_rows: bool) -> Result<GoalBlock, OutOfMemory> {
-        let mut start = Bits::new(alloc);
-        start.push(false)?;
-        let mut rows = Rows::new(alloc, 0);
-        rows.push(&Bits::new(alloc))?;
-        if two_rows {
-            rows.push(&Bits::new(alloc))?;
-        }
-        let witness = Trace { start, rows };
-        Ok(GoalBlock::Reached { number, witness })
-    }
-
-    #[test]
-    fn toggle(rt: HostRuntime) -> Result<(), Fail> {
-        let alloc = rt.alloc();
-        let mut history = Sequence::new(alloc);
-        history.push(entry(0, 0))?;
-        history.push(entry(1, 1))?;
-        let mut goals = Sequence::new(alloc);
-        goals.push(block(alloc, 0, false)?)?;
-        goals.push(block(alloc, 1, true)?)?;
-        let report = Report {
-            inputs: 0,
-            latches: 1,
-            signals: 1,
-            options: Options {
-                depth: 0,
-                batches: 0,
-                length: 1000,
-                stall: 100,
-                hop: 4,
-                seed: 1,
-                lemmas: 20000,
-                strength: 0,
-                rounds: 0,
-                proofs: false,
-            },
-            history,
-            goals,
-            reached: 2,
-            unreachable: 0,
-            unsettled: 0,
-        };
-        let text = text_of(alloc, &report)?;
-        assert_eq!(rt; text.as_slice(), TOGGLE.as_bytes());
-        Ok(())
-    }
 }
