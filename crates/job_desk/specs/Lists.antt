@@ -1,0 +1,15 @@
+-- Sums over lists, and how often a number stands in one.
+use Rattle.std.specs.Prelude.{ℕ, ◌+◌, List, [], ◌∷◌, cond, ◌==◌, nat_lt}
+
+-- f of each element, added up
+abbrev pub total : {A : Type 0} → (A → ℕ) → List A → ℕ
+total f [] = 0
+total f (x ∷ xs) = f x + total f xs
+
+-- how often x stands in the list
+abbrev pub times : ℕ → List ℕ → ℕ
+times x ns = total (λ n. cond (n == x) 1 0) ns
+
+-- 1 where x is below n, and else 0
+abbrev pub once_below : ℕ → ℕ → ℕ
+once_below x n = cond (nat_lt x n) 1 0
