@@ -9,8 +9,9 @@ use Rattle.aig_model.specs.declared.parts.Parts.{Parts}
 use Rattle.aig_model.specs.declared.trace.Trace.{Trace}
 use Rattle.report_text.specs.declared.report.GoalBlock.{GoalBlock}
 use Rattle.report_text.specs.declared.report.GoalBlock.TheVariants as blocks
-use Rattle.cover_run.specs.declared.walk.Visit.{Visit}
-use Rattle.cover_run.specs.Walk.{goals_of, IsZeroTrace}
+use Rattle.sim_walk.specs.declared.visit.Visit.{Visit}
+use Rattle.sim_walk.specs.Walk.{goals_of}
+use Rattle.sim_walk.specs.Zero.{IsZeroTrace}
 use Rattle.cover_run.specs.Blocks.{open_block, IsBlockFrom, AreBlocksFrom}
 
 pub blocks_none : (c : Parts) (count : ℕ) → AreBlocksFrom c [] count (replicate count open_block)
@@ -19,7 +20,7 @@ blocks_none c count = record {
   each = λ g b e. (
       let inside : g < count = omega (arith, slice_get_within (replicate count open_block) g b e, length-replicate count open_block) in
       let is : open_block ≡ b = sym (get_or-replicate count g open_block b inside) ∙ get_or_from_slice_get (replicate count open_block) g b b e in
-      subst (λ (x : GoalBlock). IsBlockFrom c [] g x) is (λ h. omega (arith, h.1), record { depth = refl; hops = refl; strength = refl })
+      subst (λ (x : GoalBlock). IsBlockFrom c [] g x) is (λ h. omega (arith, h.1), refl)
       );
 }
 

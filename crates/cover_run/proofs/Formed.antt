@@ -1,5 +1,5 @@
 -- A report of the zero walk's visits has the form of its text.
-use Rattle.std.proofs.Common.{◌≡◌, ℕ, ◌+◌, ◌<◌, ◌≤◌, ◌^◌, Bool, false, List, length, get_or, replicate, ap, ◌∙◌, arith, lit<, Some}
+use Rattle.std.proofs.Common.{◌≡◌, ℕ, ◌+◌, ◌<◌, ◌≤◌, ◌^◌, Bool, false, List, length, get_or, replicate, sym, ap, subst, ◌∙◌, arith, lit<, Some}
 use Rattle.std.specs.Prelude.{slice_get}
 use Rattle.std.proofs.lemmas.List.{length-map, length-replicate}
 use Rattle.std.proofs.lemmas.List.Elements.{All-replicate, recursion_from_All}
@@ -10,20 +10,20 @@ use Rattle.aig_model.specs.WellFormed.{IsCircuit}
 use Rattle.aig_model.specs.SignalList.{IsSignals}
 use Rattle.aig_model.specs.declared.parts.Parts.{Parts}
 use Rattle.aig_model.specs.declared.parts.Latch.{Latch}
-use Rattle.report_text.specs.declared.options.Options.{Options}
-use Rattle.report_text.specs.declared.report.Entry.{Entry}
+use Rattle.sim_walk.specs.declared.options.Options.{Options}
+use Rattle.board_core.specs.declared.entry.Entry.{Entry}
 use Rattle.report_text.specs.declared.report.GoalBlock.{GoalBlock}
 use Rattle.report_text.specs.declared.report.GoalBlock.TheVariants as blocks
 use Rattle.report_text.specs.declared.report.Report.{Report}
-use Rattle.cover_run.specs.declared.walk.Visit.{Visit}
-use Rattle.cover_run.specs.Walk.{first_value, zero_row, AreZeroVisits}
+use Rattle.sim_walk.specs.declared.visit.Visit.{Visit}
+use Rattle.sim_walk.specs.Zero.{first_value, zero_row, zero_lanes, AreZeroVisits}
 use Rattle.cover_run.specs.Posts.{posts_of}
 use Rattle.cover_run.specs.Blocks.{IsBlockFrom, AreBlocksFrom}
 use Rattle.cover_run.specs.Report.{is_reached, is_open}
 use Rattle.report_text.specs.Form.{FitsOptions, FitsEntry, FitsBlock, HasForm}
 use Rattle.cover_run.specs.Summed.{Holds}
-use Rattle.cover_run.proofs.Visited.{visited_below, visits_few}
-use Rattle.cover_run.proofs.Posted.{post_at, length-posts, visit_inside}
+use Rattle.sim_walk.proofs.Visits.{visited_below, visits_few, visit_inside}
+use Rattle.cover_run.proofs.Posted.{post_at, length-posts}
 
 pub few_goals : (sig : List ℕ) → length sig ≤ 10 → 2 ^ length sig ≤ 1024
 few_goals sig h = pow-le-pow_right {n = 2} (lit< tt) h
@@ -32,10 +32,10 @@ post_fits : (c : Parts) (sig : List ℕ) (steps : ℕ) (vs : List Visit) → Are
     → (k : ℕ) (e : Entry) → slice_get (posts_of vs) k ≡ Some e → FitsEntry e
 post_fits c sig steps vs walked few short k e h =
     let post = post_at vs k e h in
-    let visited = (visit_inside c sig steps vs k post.visit walked post.place).visited in
-    let goal = visited_below c sig steps post.visit.step post.visit.goal visited in
+    let visited = (visit_inside c sig (zero_lanes c) steps vs k post.visit walked post.place).visited in
+    let goal = visited_below c sig (zero_lanes c) steps post.visit.lane post.visit.step post.visit.goal visited in
     let inside = slice_get_within vs k post.visit post.place in
-    rw post.is (record { number = omega arith; caller = omega arith; goal = omega (arith, goal, few_goals sig few); low = omega arith })
+    rw post.is (record { number = omega arith; caller = omega arith; goal = omega (arith, goal, few_goals sig few); low = omega arith; source = tt })
 
 block_fits : (c : Parts) (vs : List Visit) (g : ℕ) (b : GoalBlock) → length vs < 2 ^ 64 → IsBlockFrom c vs g b → FitsBlock (length c.inputs) (length c.latches) b
 block_fits c vs g (blocks.Reached n w) short h = (
@@ -47,13 +47,13 @@ block_fits c vs g (blocks.Reached n w) short h = (
         (All-replicate (λ (row : List Bool). length row ≡ length c.inputs) (h.visit.step + 1) (zero_row c) (length-replicate (length c.inputs) false)));
   },
 )
-block_fits c vs g (blocks.Open depth hops strength) short h = rw (h.1.depth, h.1.hops, h.1.strength) (tt, tt, tt)
+block_fits c vs g (blocks.Open depth hops strength) short h = subst (λ (b : GoalBlock). FitsBlock (length c.inputs) (length c.latches) b) (sym h.1) (tt, tt, tt)
 
 pub report_form : (c : Parts) (sig : List ℕ) (o : Options) (vs : List Visit) (blocks : List GoalBlock) (r : Report) → IsCircuit c → IsSignals c sig → FitsOptions o
     → AreZeroVisits c sig o.length vs → AreBlocksFrom c vs (2 ^ length sig) blocks → Holds c sig o (posts_of vs) blocks r → HasForm r
 report_form c sig o vs blocks r ok signals_ok fits walked made h =
-    let short : length vs < 2 ^ 64 = omega (arith, visits_few c sig o.length vs walked, fits.length) in
     let few = few_goals sig signals_ok.few in
+    let short : length vs < 2 ^ 64 = omega (arith, visits_few c sig (zero_lanes c) o.length vs walked, few) in
     record {
       inputs = omega (arith, h.inputs, ok.sized.inputs);
       latches = omega (arith, h.latches, ok.sized.latches);
@@ -61,8 +61,12 @@ report_form c sig o vs blocks r ok signals_ok fits walked made h =
       options = rw h.options fits;
       entries = omega (arith, ap length h.history, length-posts vs);
       history = rw h.history (recursion_from_All FitsEntry (posts_of vs) (λ k d l. post_fits c sig o.length vs walked signals_ok.few short k (get_or (posts_of vs) k d) (slice_get-get_or (posts_of vs) k d l)));
+      seeds = h.seeds;
+      invs = h.invs;
       blocks = omega (arith, ap length h.goals, made.size, few);
       goals = rw (h.inputs, h.latches, h.goals) (recursion_from_All (FitsBlock (length c.inputs) (length c.latches)) blocks (λ k d l. block_fits c vs k (get_or blocks k d) short (made.each k (get_or blocks k d) (slice_get-get_or blocks k d l))));
+      spents = h.spents;
+      refutes = h.refutes;
       reached = omega (arith, h.reached, count_by-le-length is_reached blocks, made.size, few);
       unreachable = omega (arith, h.unreachable);
       unsettled = omega (arith, h.unsettled, count_by-le-length is_open blocks, made.size, few);

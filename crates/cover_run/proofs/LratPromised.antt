@@ -26,45 +26,45 @@ use Rattle.cover_run.specs.Files.{limit_of, IsTooLong}
 use Rattle.cover_run.specs.Promises.{IsTold, IsToldTooLong, Spells, IsUndisturbed, IsProved, AcceptedCause, AcceptedComes, BadFormulaComes, BadProofComes, BadStepComes, LongFormulaComes, LongProofComes}
 use Rattle.cover_run.specs.Seen.{DeskSeen, SinkSeen, HasFaulted, Failed, Took}
 use Rattle.cover_run.specs.Stops.{status_of, settled_status}
-use Rattle.cover_run.specs.Words.{LratCall, Command, Lrat}
+use Rattle.cover_run.specs.Words.{LratCall, Meaning, Lrat}
 use Rattle.cover_run.proofs.WhereTold.{IfSome-at}
 use Rattle.cover_run.proofs.Promised.{told_long, not_ended, stopped_so}
 use Rattle.cover_run.proofs.Stopped.{LratStops, formula_unreadable, formula_long, bad_formula, proof_unreadable, proof_long, bad_proof, bad_step, not_accepted_written, no_memory, lrat_stops}
 
-lrat_output : (command : Command) (call : LratCall) (d : DeskSeen) (bytes : List ℕ) (settled : Bool) → command ≡ Lrat call → IsOutput command d bytes settled → IsLratOutput call d bytes settled
-lrat_output command call d bytes settled e o = subst (λ (x : Command). IsOutput x d bytes settled) e o
+lrat_output : (command : Meaning) (call : LratCall) (d : DeskSeen) (bytes : List ℕ) (settled : Bool) → command ≡ Lrat call → IsOutput command d bytes settled → IsLratOutput call d bytes settled
+lrat_output command call d bytes settled e o = subst (λ (x : Meaning). IsOutput x d bytes settled) e o
 
-stops_of : (command : Command) (call : LratCall) (d : DeskSeen) (out : SinkSeen) (stop : Stop) → command ≡ Lrat call → Cause command d out stop → LratStops call d out stop
-stops_of command call d out stop e cause = lrat_stops call d out stop (subst (λ (x : Command). Cause x d out stop) e cause)
+stops_of : (command : Meaning) (call : LratCall) (d : DeskSeen) (out : SinkSeen) (stop : Stop) → command ≡ Lrat call → Cause command d out stop → LratStops call d out stop
+stops_of command call d out stop e cause = lrat_stops call d out stop (subst (λ (x : Meaning). Cause x d out stop) e cause)
 
 -- ---- the texts that are told are the ones meant
-told_formula : (call : LratCall) (d : DeskSeen) (t : List ℕ) (f : CnfFormula) → d.text call.formula ≡ Some t → HasFormula call d f → IsFormulaText f t
-told_formula call d t f told has = IfSome-at (IsFormulaText f) (d.text call.formula) t told has
+told_formula : (call : LratCall) (d : DeskSeen) (t : List ℕ) (f : CnfFormula) → d.old.text call.formula ≡ Some t → HasFormula call d f → IsFormulaText f t
+told_formula call d t f told has = IfSome-at (IsFormulaText f) (d.old.text call.formula) t told has
 
-told_proof : (call : LratCall) (d : DeskSeen) (u : List ℕ) (p : List LratStep) → d.text call.proof ≡ Some u → HasProof call d p → IsProofText p u
-told_proof call d u p told has = IfSome-at (IsProofText p) (d.text call.proof) u told has
+told_proof : (call : LratCall) (d : DeskSeen) (u : List ℕ) (p : List LratStep) → d.old.text call.proof ≡ Some u → HasProof call d p → IsProofText p u
+told_proof call d u p told has = IfSome-at (IsProofText p) (d.old.text call.proof) u told has
 
-told_fault : (call : LratCall) (d : DeskSeen) (t : List ℕ) (line : ℕ) (kind : DimacsKind) → d.text call.formula ≡ Some t → IfSome (d.text call.formula) (HasFormulaFault line kind)
+told_fault : (call : LratCall) (d : DeskSeen) (t : List ℕ) (line : ℕ) (kind : DimacsKind) → d.old.text call.formula ≡ Some t → IfSome (d.old.text call.formula) (HasFormulaFault line kind)
     → HasFormulaFault line kind t
-told_fault call d t line kind told has = IfSome-at (HasFormulaFault line kind) (d.text call.formula) t told has
+told_fault call d t line kind told has = IfSome-at (HasFormulaFault line kind) (d.old.text call.formula) t told has
 
-told_proof_fault : (call : LratCall) (d : DeskSeen) (u : List ℕ) (line : ℕ) (kind : LratKind) → d.text call.proof ≡ Some u → IfSome (d.text call.proof) (HasProofFault line kind)
+told_proof_fault : (call : LratCall) (d : DeskSeen) (u : List ℕ) (line : ℕ) (kind : LratKind) → d.old.text call.proof ≡ Some u → IfSome (d.old.text call.proof) (HasProofFault line kind)
     → HasProofFault line kind u
-told_proof_fault call d u line kind told has = IfSome-at (HasProofFault line kind) (d.text call.proof) u told has
+told_proof_fault call d u line kind told has = IfSome-at (HasProofFault line kind) (d.old.text call.proof) u told has
 
-same_formula : (call : LratCall) (d : DeskSeen) (t : List ℕ) (f g : CnfFormula) → d.text call.formula ≡ Some t → SpellsFormula t f → HasFormula call d g → g ≡ f
+same_formula : (call : LratCall) (d : DeskSeen) (t : List ℕ) (f g : CnfFormula) → d.old.text call.formula ≡ Some t → SpellsFormula t f → HasFormula call d g → g ≡ f
 same_formula call d t f g told spells has = dimacs_text.one-formula t g f (told_formula call d t g told has).spells spells
 
-same_proof : (call : LratCall) (d : DeskSeen) (u : List ℕ) (p q : List LratStep) → d.text call.proof ≡ Some u → SpellsProof u p → HasProof call d q → q ≡ p
+same_proof : (call : LratCall) (d : DeskSeen) (u : List ℕ) (p q : List LratStep) → d.old.text call.proof ≡ Some u → SpellsProof u p → HasProof call d q → q ≡ p
 same_proof call d u p q told spells has = lrat_text.one-proof u q p (told_proof call d u q told has).spells spells
 
 -- ---- the refusals of the formula come
 -- a text with a first fault spells no formula
-faulty : (call : LratCall) (d : DeskSeen) (t : List ℕ) (line : ℕ) (kind : DimacsKind) → d.text call.formula ≡ Some t → IsFirstInFormula t line kind → HasSomeFormula call d → ⊥
+faulty : (call : LratCall) (d : DeskSeen) (t : List ℕ) (line : ℕ) (kind : DimacsKind) → d.old.text call.formula ≡ Some t → IsFirstInFormula t line kind → HasSomeFormula call d → ⊥
 faulty call d t line kind told first (f, has) = dimacs_text.not-both t f line kind (told_formula call d t f told has).spells first
 
-same_stop : (call : LratCall) (d : DeskSeen) (t : List ℕ) (m n : ℕ) (k l : DimacsKind) → d.text call.formula ≡ Some t → IsFirstInFormula t n l
-    → IfSome (d.text call.formula) (HasFormulaFault m k) → formula_stop m k ≡ formula_stop n l
+same_stop : (call : LratCall) (d : DeskSeen) (t : List ℕ) (m n : ℕ) (k l : DimacsKind) → d.old.text call.formula ≡ Some t → IsFirstInFormula t n l
+    → IfSome (d.old.text call.formula) (HasFormulaFault m k) → formula_stop m k ≡ formula_stop n l
 same_stop call d t m n k l told first has =
     let same = dimacs_text.one-fault t m n k l (told_fault call d t m k told has).first first in
     ap (λ (x : ℕ). formula_stop x k) same.0 ∙ ap (λ (x : DimacsKind). formula_stop n x) same.1
@@ -81,7 +81,7 @@ bad_formula_stops call d out stop t line kind told first (bad_step m k e f p has
 bad_formula_stops call d out stop t line kind told first (not_accepted_written e h bytes settled o) = absurd (faulty call d t line kind told.told first (o.formula, o.has_formula))
 bad_formula_stops call d out stop t line kind told first (no_memory e) = inr e
 
-pub bad_formula_comes : (command : Command) (d : DeskSeen) (out err : SinkSeen) (status : Status) → IsAnswer command d out err status → BadFormulaComes command d err status
+pub bad_formula_comes : (command : Meaning) (d : DeskSeen) (out err : SinkSeen) (status : Status) → IsAnswer command d out err status → BadFormulaComes command d err status
 bad_formula_comes command d out err status (inl w) call t line kind e told first =
     let o = lrat_output command call d w.whole.bytes w.settled e w.whole.output in
     absurd (faulty call d t line kind told.told first (o.formula, o.has_formula))
@@ -103,7 +103,7 @@ long_formula_stops call d out stop t long (bad_step m k e f p has has_proof h) =
 long_formula_stops call d out stop t long (not_accepted_written e h bytes settled o) = absurd (past_limit d call.formula t long (told_formula call d t o.formula long.told o.has_formula).short)
 long_formula_stops call d out stop t long (no_memory e) = inr e
 
-pub long_formula_comes : (command : Command) (d : DeskSeen) (out err : SinkSeen) (status : Status) → IsAnswer command d out err status → LongFormulaComes command d err status
+pub long_formula_comes : (command : Meaning) (d : DeskSeen) (out err : SinkSeen) (status : Status) → IsAnswer command d out err status → LongFormulaComes command d err status
 long_formula_comes command d out err status (inl w) call t e long =
     let o = lrat_output command call d w.whole.bytes w.settled e w.whole.output in
     absurd (past_limit d call.formula t long (told_formula call d t o.formula long.told o.has_formula).short)
@@ -114,7 +114,7 @@ long_formula_comes command d out err status (inr s) call t e long =
 data ProofStops (call : LratCall) (d : DeskSeen) (out : SinkSeen) (f : CnfFormula) (stop : Stop) : Type 0 where
   unreadable : HasFaulted d call.proof → ProofStops call d out f stop
   long : stop ≡ stops.TooLong files.Proof → IsTooLong d files.Proof call.proof → ProofStops call d out f stop
-  faulty_text : (line : ℕ) (kind : LratKind) → stop ≡ stops.Refused (refusals.Proof line kind) → IfSome (d.text call.proof) (HasProofFault line kind) → ProofStops call d out f stop
+  faulty_text : (line : ℕ) (kind : LratKind) → stop ≡ stops.Refused (refusals.Proof line kind) → IfSome (d.old.text call.proof) (HasProofFault line kind) → ProofStops call d out f stop
   faulty_step : (step : ℕ) (kind : ProofKind) → stop ≡ stops.Refused (refusals.Step step kind) → (p : List LratStep) → HasProof call d p → first_fault f p ≡ Some (step, kind)
       → ProofStops call d out f stop
   written : Failed out → (p : List LratStep) → HasProof call d p → Accepted f p → ProofStops call d out f stop
@@ -135,7 +135,7 @@ after_formula call d out stop t f told spells (not_accepted_written e h bytes se
 after_formula call d out stop t f told spells (no_memory e) = short_of_memory e
 
 -- ---- the refusals of the proof come
-faulty_proof : (call : LratCall) (d : DeskSeen) (u : List ℕ) (line : ℕ) (kind : LratKind) (p : List LratStep) → d.text call.proof ≡ Some u → IsFirstInProof u line kind
+faulty_proof : (call : LratCall) (d : DeskSeen) (u : List ℕ) (line : ℕ) (kind : LratKind) (p : List LratStep) → d.old.text call.proof ≡ Some u → IsFirstInProof u line kind
     → HasProof call d p → ⊥
 faulty_proof call d u line kind p told first has = lrat_text.not-both u p line kind (told_proof call d u p told has).spells first
 
@@ -150,7 +150,7 @@ bad_proof_stops call d out stop f u line kind told first (faulty_step m k e p ha
 bad_proof_stops call d out stop f u line kind told first (written h p has accepted) = absurd (faulty_proof call d u line kind p told.told first has)
 bad_proof_stops call d out stop f u line kind told first (short_of_memory e) = inr e
 
-pub bad_proof_comes : (command : Command) (d : DeskSeen) (out err : SinkSeen) (status : Status) → IsAnswer command d out err status → BadProofComes command d err status
+pub bad_proof_comes : (command : Meaning) (d : DeskSeen) (out err : SinkSeen) (status : Status) → IsAnswer command d out err status → BadProofComes command d err status
 bad_proof_comes command d out err status (inl w) call t f u line kind e told spells also first =
     let o = lrat_output command call d w.whole.bytes w.settled e w.whole.output in
     absurd (faulty_proof call d u line kind o.proof also.told first o.has_proof)
@@ -170,7 +170,7 @@ long_proof_stops call d out stop f u past (faulty_step m k e p has h) = absurd (
 long_proof_stops call d out stop f u past (written h p has accepted) = absurd (past_proof d call.proof u past (told_proof call d u p past.told has).short)
 long_proof_stops call d out stop f u past (short_of_memory e) = inr e
 
-pub long_proof_comes : (command : Command) (d : DeskSeen) (out err : SinkSeen) (status : Status) → IsAnswer command d out err status → LongProofComes command d err status
+pub long_proof_comes : (command : Meaning) (d : DeskSeen) (out err : SinkSeen) (status : Status) → IsAnswer command d out err status → LongProofComes command d err status
 long_proof_comes command d out err status (inl w) call t f u e told spells past =
     let o = lrat_output command call d w.whole.bytes w.settled e w.whole.output in
     absurd (past_proof d call.proof u past (told_proof call d u o.proof past.told o.has_proof).short)
@@ -206,7 +206,7 @@ bad_step_stops call d out stop f u p step kind told spells fault (written h q ha
     absurd (not_accepted f p step kind fault (subst (λ (x : List LratStep). Accepted f x) (same_proof call d u p q told.told spells has) accepted))
 bad_step_stops call d out stop f u p step kind told spells fault (short_of_memory e) = inr e
 
-pub bad_step_comes : (command : Command) (d : DeskSeen) (out err : SinkSeen) (status : Status) → IsAnswer command d out err status → BadStepComes command d err status
+pub bad_step_comes : (command : Meaning) (d : DeskSeen) (out err : SinkSeen) (status : Status) → IsAnswer command d out err status → BadStepComes command d err status
 bad_step_comes command d out err status (inl w) call t f u p step kind e told spells also spells_proof fault =
     let o = lrat_output command call d w.whole.bytes w.settled e w.whole.output in
     let one : o.formula ≡ f = same_formula call d t f o.formula told.told spells o.has_formula in
@@ -230,7 +230,7 @@ proved call d out status f p bytes settled spells o took e =
       took = subst (λ (xs : List ℕ). Took out xs) o.bytes_are took;
     }
 
-pub accepted_cause : (command : Command) (d : DeskSeen) (out err : SinkSeen) (status : Status) → IsAnswer command d out err status → AcceptedCause command d out status
+pub accepted_cause : (command : Meaning) (d : DeskSeen) (out err : SinkSeen) (status : Status) → IsAnswer command d out err status → AcceptedCause command d out status
 accepted_cause command d out err status (inl w) call f p e spells ended =
     proved call d out status f p w.whole.bytes w.settled spells (lrat_output command call d w.whole.bytes w.settled e w.whole.output) w.whole.took w.status_is
 accepted_cause command d out err status (inr s) call f p e spells ended = absurd (not_ended s.stop status s.status_is ended)
@@ -253,10 +253,10 @@ accepted_stop call d out stop f p s accepted u h =
     let told : IsTold d files.Formula call.formula s.formula_text = record { told = s.formula_told; short = s.formula_short; no_fault = u.files files.Formula } in
     accepted_stops call d out stop f p s accepted u (after_formula call d out stop s.formula_text f told s.formula h)
 
-pub accepted_comes : (command : Command) (d : DeskSeen) (out err : SinkSeen) (status : Status) → IsAnswer command d out err status → AcceptedComes command d out status
+pub accepted_comes : (command : Meaning) (d : DeskSeen) (out err : SinkSeen) (status : Status) → IsAnswer command d out err status → AcceptedComes command d out status
 accepted_comes command d out err status (inl w) call f p e spells accepted undisturbed =
     inl (proved call d out status f p w.whole.bytes w.settled spells (lrat_output command call d w.whole.bytes w.settled e w.whole.output) w.whole.took w.status_is)
 accepted_comes command d out err status (inr s) call f p e spells accepted undisturbed =
     let by = stops_of command call d out s.stop e s.stopped.cause in
-    let memory = accepted_stop call d out s.stop f p spells accepted (subst (λ (x : Command). IsUndisturbed x d out) e undisturbed) by in
+    let memory = accepted_stop call d out s.stop f p spells accepted (subst (λ (x : Meaning). IsUndisturbed x d out) e undisturbed) by in
     inr (s.status_is ∙ ap status_of memory)

@@ -5,16 +5,17 @@ use Rattle.std.specs.List.{enumerate_from}
 use Rattle.std.proofs.lemmas.Bool.Decides.{nat_tests}
 use Rattle.std.proofs.lemmas.List.{length-map, length-take-le, take_more}
 use Rattle.std.proofs.lemmas.List.FromFn.{length-enumerate_from}
-use Rattle.std.proofs.lemmas.List.Elements.{All-get_or}
 use Rattle.std.proofs.lemmas.Option.{slice_get_within, slice_get-get_or, get_or_from_slice_get}
 use Rattle.aig_model.specs.declared.parts.Parts.{Parts}
-use Rattle.report_text.specs.declared.options.Options.{Options}
-use Rattle.report_text.specs.declared.report.Entry.{Entry}
-use Rattle.cover_run.specs.declared.walk.Visit.{Visit}
-use Rattle.cover_run.specs.Walk.{goals_of, IsFirstVisit, AreZeroVisits}
-use Rattle.cover_run.specs.History.{Found, IsLegal, IsInOrder, first_entry}
+use Rattle.sim_walk.specs.declared.options.Options.{Options}
+use Rattle.board_core.specs.declared.entry.Entry.{Entry}
+use Rattle.sim_walk.specs.declared.visit.Visit.{Visit}
+use Rattle.sim_walk.specs.Walk.{goals_of}
+use Rattle.sim_walk.specs.Zero.{zero_lanes, AreZeroVisits}
+use Rattle.board_core.specs.History.{IsLegal, IsInOrder, first_entry}
+use Rattle.cover_run.specs.Found.{Found}
 use Rattle.cover_run.specs.Posts.{post_of, posts_of}
-use Rattle.cover_run.proofs.Visited.{AreDistinct, visited_below, visits_distinct, distinct_tail}
+use Rattle.sim_walk.proofs.Visits.{AreDistinct, visited_below, visits_distinct, distinct_tail, visit_inside}
 
 -- the posts of visits that are numbered from n on
 abbrev pub posts_from : ℕ → List Visit → List Entry
@@ -91,22 +92,17 @@ no_post n (x ∷ vs) g none =
     ∙ no_post (n + 1) vs g (λ h. none (suc h.0, omega (arith, h.1), h.2))
 
 -- ---- the history
-pub visit_inside : (c : Parts) (sig : List ℕ) (steps : ℕ) (vs : List Visit) (k : ℕ) (v : Visit) → AreZeroVisits c sig steps vs → slice_get vs k ≡ Some v
-    → IsFirstVisit c sig steps v
-visit_inside c sig steps vs k v walked e =
-    subst (λ (x : Visit). IsFirstVisit c sig steps x) (get_or_from_slice_get vs k v v e) (All-get_or (IsFirstVisit c sig steps) vs k v (slice_get_within vs k v e) walked.firsts)
-
 pub posts_legal : (c : Parts) (sig : List ℕ) (o : Options) (vs : List Visit) → AreZeroVisits c sig o.length vs → IsLegal o (2 ^ length sig) (posts_of vs)
 posts_legal c sig o vs walked =
-    let distinct = visits_distinct c sig o.length vs walked in
+    let distinct = visits_distinct c sig (zero_lanes c) o.length vs walked in
     record {
       entries = λ k e h. (
           let post = post_at vs k e h in
-          let first = visit_inside c sig o.length vs k post.visit walked post.place in
+          let first = visit_inside c sig (zero_lanes c) o.length vs k post.visit walked post.place in
           rw post.is (record {
             number = omega arith;
             caller = omega arith;
-            goal = visited_below c sig o.length post.visit.step post.visit.goal first.visited;
+            goal = visited_below c sig (zero_lanes c) o.length post.visit.lane post.visit.step post.visit.goal first.visited;
             low = omega arith;
             source = tt;
             kind = refl;
@@ -131,7 +127,7 @@ pub posts_found : (c : Parts) (sig : List ℕ) (o : Options) (vs : List Visit) �
     → All (λ (e : Entry). Found c sig o e.source e.goal) (posts_of vs)
 posts_found c sig o vs walked = λ k d l. (
     let post = post_inside vs k d l in
-    let first = visit_inside c sig o.length vs k post.visit walked post.place in
+    let first = visit_inside c sig (zero_lanes c) o.length vs k post.visit walked post.place in
     let P : Entry → Type 0 = λ (e : Entry). Found c sig o e.source e.goal in
-    subst P (sym post.is) (post.visit.step, first.visited)
+    subst P (sym post.is) (post.visit.lane, post.visit.step, first.visited)
     )

@@ -1,6 +1,7 @@
 -- Why each command can stop: its causes alone, without the stops that are never its own.
 use Rattle.std.proofs.Common.{◌≡◌, ℕ, Bool, List, Some, IfSome, refl, inl, inr, subst}
 use Rattle.std.specs.Prelude.{◌≢◌, ◌⊎◌}
+use Rattle.std.proofs.lemmas.Option.{none-some}
 use Rattle.aig_model.specs.declared.parts.Parts.{Parts}
 use Rattle.cnf_base.specs.Meaning.{CnfFormula}
 use Rattle.cnf_base.specs.declared.fault.DimacsKind.{DimacsKind}
@@ -17,50 +18,88 @@ use Rattle.cover_run.specs.declared.stop.Measure.TheVariants as measures
 use Rattle.cover_run.specs.declared.stop.Refusal.TheVariants as refusals
 use Rattle.cover_run.specs.declared.stop.Stop.{Stop}
 use Rattle.cover_run.specs.declared.stop.Stop.TheVariants as stops
-use Rattle.cover_run.specs.Answer.{Cause}
+use Rattle.cover_run.specs.Answer.{Cause, IsOutput}
 use Rattle.cover_run.specs.Checking.{formula_stop, HasFormula, HasProof, HasFormulaFault, HasProofFault, HasSomeFormula, IsLratOutput}
 use Rattle.cover_run.specs.Covering.{HasCircuit, HasSignals, IsTooMuch, HasSomeCircuit, RefusesCircuit, RefusesSignals, IsCoverOutput}
-use Rattle.cover_run.specs.Files.{IsTooLong}
+use Rattle.cover_run.specs.Files.{subject_of, IsTooLong}
 use Rattle.cover_run.specs.Seen.{DeskSeen, SinkSeen, HasFaulted, Failed}
-use Rattle.cover_run.specs.Words.{CoverCall, LratCall, Command, Help, Version, Cover, Lrat}
+use Rattle.cover_run.specs.Words.{Subject, CoverCall, LratCall, Meaning, Usage, Help, Version, Cover, Lrat}
 
+-- a circuit and its signals aren't read
+pub data ReadStops (s : Subject) (d : DeskSeen) (stop : Stop) : Type 0 where
+  circuit_unreadable : HasFaulted d s.circuit → ReadStops s d stop
+  circuit_long : stop ≡ stops.TooLong files.Circuit → IsTooLong d files.Circuit s.circuit → ReadStops s d stop
+  bad_circuit : (at : ℕ) (kind : AagKind) → stop ≡ stops.BadCircuit at kind → RefusesCircuit s d at kind → ReadStops s d stop
+  signals_unreadable : HasSomeCircuit s d → HasFaulted d s.signals → ReadStops s d stop
+  signals_long : stop ≡ stops.TooLong files.Signals → HasSomeCircuit s d → IsTooLong d files.Signals s.signals → ReadStops s d stop
+  bad_signals : (line : ℕ) (kind : SigKind) → stop ≡ stops.BadSignals line kind → RefusesSignals s d line kind → ReadStops s d stop
+
+-- `cover` stops
 pub data CoverStops (call : CoverCall) (d : DeskSeen) (out : SinkSeen) (stop : Stop) : Type 0 where
-  circuit_unreadable : stop ≡ stops.Unreadable files.Circuit → HasFaulted d call.circuit → CoverStops call d out stop
-  circuit_long : stop ≡ stops.TooLong files.Circuit → IsTooLong d files.Circuit call.circuit → CoverStops call d out stop
-  bad_circuit : (at : ℕ) (kind : AagKind) → stop ≡ stops.BadCircuit at kind → RefusesCircuit call d at kind → CoverStops call d out stop
-  signals_unreadable : stop ≡ stops.Unreadable files.Signals → HasSomeCircuit call d → HasFaulted d call.signals → CoverStops call d out stop
-  signals_long : stop ≡ stops.TooLong files.Signals → HasSomeCircuit call d → IsTooLong d files.Signals call.signals → CoverStops call d out stop
-  bad_signals : (line : ℕ) (kind : SigKind) → stop ≡ stops.BadSignals line kind → RefusesSignals call d line kind → CoverStops call d out stop
-  too_much : (m : Measure) → stop ≡ stops.TooLarge m → (c : Parts) (sig : List ℕ) → HasCircuit call d c → HasSignals call d c sig → IsTooMuch call.options c m
-      → CoverStops call d out stop
-  not_written : stop ≡ stops.CannotWrite → Failed out → (bytes : List ℕ) (settled : Bool) → IsCoverOutput call d bytes settled → CoverStops call d out stop
+  unread : ReadStops call.subject d stop → CoverStops call d out stop
+  too_much : (m : Measure) → stop ≡ stops.TooLarge m → (c : Parts) (sig : List ℕ) → HasCircuit call.subject d c → HasSignals call.subject d c sig
+      → IsTooMuch call.options c m → CoverStops call d out stop
+  not_written : Failed out → (bytes : List ℕ) (settled : Bool) → IsCoverOutput call d bytes settled → CoverStops call d out stop
   memory : stop ≡ stops.OutOfMemory → CoverStops call d out stop
 
 pub cover_stops : (call : CoverCall) (d : DeskSeen) (out : SinkSeen) (stop : Stop) → Cause (Cover call) d out stop → CoverStops call d out stop
 cover_stops call d out stops.Usage cause = absurd cc
-cover_stops call d out (stops.Unreadable files.Circuit) cause = circuit_unreadable refl cause.1
-cover_stops call d out (stops.Unreadable files.Signals) cause = signals_unreadable refl cause.0 cause.1
-cover_stops call d out (stops.Unreadable files.Formula) cause = absurd cause.0
-cover_stops call d out (stops.Unreadable files.Proof) cause = absurd cause.0
-cover_stops call d out (stops.TooLong files.Circuit) cause = circuit_long refl cause.1
-cover_stops call d out (stops.TooLong files.Signals) cause = signals_long refl cause.0 cause.1
-cover_stops call d out (stops.TooLong files.Formula) cause = absurd cause.0
-cover_stops call d out (stops.TooLong files.Proof) cause = absurd cause.0
+cover_stops call d out (stops.Unreadable files.Circuit) cause = unread (circuit_unreadable cause.1)
+cover_stops call d out (stops.Unreadable files.Signals) cause = unread (signals_unreadable cause.0 cause.1)
+cover_stops call d out (stops.Unreadable files.Formula) cause = absurd cause.1
+cover_stops call d out (stops.Unreadable files.Proof) cause = absurd cause.1
+cover_stops call d out (stops.TooLong files.Circuit) cause = unread (circuit_long refl cause.1)
+cover_stops call d out (stops.TooLong files.Signals) cause = unread (signals_long refl cause.0 cause.1)
+cover_stops call d out (stops.TooLong files.Formula) cause = absurd cause.1
+cover_stops call d out (stops.TooLong files.Proof) cause = absurd cause.1
 cover_stops call d out (stops.TooLarge m) cause = too_much m refl cause.0 cause.1 cause.2 cause.3 cause.4
-cover_stops call d out (stops.BadCircuit at kind) cause = bad_circuit at kind refl cause
-cover_stops call d out (stops.BadSignals line kind) cause = bad_signals line kind refl cause
+cover_stops call d out (stops.BadCircuit at kind) cause = unread (bad_circuit at kind refl cause)
+cover_stops call d out (stops.BadSignals line kind) cause = unread (bad_signals line kind refl cause)
 cover_stops call d out (stops.Refused why) cause = absurd cause
-cover_stops call d out stops.CannotWrite cause = not_written refl cause.0 cause.1.0 cause.1.1 cause.1.2
+cover_stops call d out stops.CannotWrite cause = not_written cause.0 cause.1.0 cause.1.1 cause.1.2
 cover_stops call d out stops.OutOfMemory cause = memory refl
+
+-- a command that reads a circuit and signals stops before both are accepted, or after, or for want of memory
+pub data SubjectStops (s : Subject) (d : DeskSeen) (stop : Stop) : Type 0 where
+  subject_unread : ReadStops s d stop → SubjectStops s d stop
+  subject_accepted : (c : Parts) (sig : List ℕ) → HasCircuit s d c → HasSignals s d c sig → SubjectStops s d stop
+  subject_memory : stop ≡ stops.OutOfMemory → SubjectStops s d stop
+
+subject_of_cover : (call : CoverCall) (d : DeskSeen) (out : SinkSeen) (stop : Stop) → CoverStops call d out stop → SubjectStops call.subject d stop
+subject_of_cover call d out stop (unread r) = subject_unread r
+subject_of_cover call d out stop (too_much m e c sig has also h) = subject_accepted c sig has also
+subject_of_cover call d out stop (not_written h bytes settled o) = subject_accepted o.circuit o.signals o.has_circuit o.has_signals
+subject_of_cover call d out stop (memory e) = subject_memory e
+
+pub subject_stops : (command : Meaning) (s : Subject) (d : DeskSeen) (out : SinkSeen) (stop : Stop) → subject_of command ≡ Some s → Cause command d out stop → SubjectStops s d stop
+subject_stops Usage s d out stop e cause = absurd (none-some s e)
+subject_stops Help s d out stop e cause = absurd (none-some s e)
+subject_stops Version s d out stop e cause = absurd (none-some s e)
+subject_stops (Cover call) s d out stop e cause =
+    let same : call.subject ≡ s = cc in
+    subst (λ (x : Subject). SubjectStops x d stop) same (subject_of_cover call d out stop (cover_stops call d out stop cause))
+subject_stops (Lrat call) s d out stop e cause = absurd (none-some s e)
+
+-- the circuit and the signals of which a whole output is
+pub data SubjectOutput (s : Subject) (d : DeskSeen) : Type 0 where
+  made_of : (c : Parts) (sig : List ℕ) → HasCircuit s d c → HasSignals s d c sig → SubjectOutput s d
+
+pub subject_output : (command : Meaning) (s : Subject) (d : DeskSeen) (bytes : List ℕ) (settled : Bool) → subject_of command ≡ Some s → IsOutput command d bytes settled → SubjectOutput s d
+subject_output Usage s d bytes settled e o = absurd o
+subject_output Help s d bytes settled e o = absurd (none-some s e)
+subject_output Version s d bytes settled e o = absurd (none-some s e)
+subject_output (Cover call) s d bytes settled e o =
+    let same : call.subject ≡ s = cc in subst (λ (x : Subject). SubjectOutput x d) same (made_of o.circuit o.signals o.has_circuit o.has_signals)
+subject_output (Lrat call) s d bytes settled e o = absurd (none-some s e)
 
 pub data LratStops (call : LratCall) (d : DeskSeen) (out : SinkSeen) (stop : Stop) : Type 0 where
   formula_unreadable : stop ≡ stops.Unreadable files.Formula → HasFaulted d call.formula → LratStops call d out stop
   formula_long : stop ≡ stops.TooLong files.Formula → IsTooLong d files.Formula call.formula → LratStops call d out stop
-  bad_formula : (line : ℕ) (kind : DimacsKind) → stop ≡ formula_stop line kind → IfSome (d.text call.formula) (HasFormulaFault line kind) → LratStops call d out stop
+  bad_formula : (line : ℕ) (kind : DimacsKind) → stop ≡ formula_stop line kind → IfSome (d.old.text call.formula) (HasFormulaFault line kind) → LratStops call d out stop
   proof_unreadable : stop ≡ stops.Unreadable files.Proof → HasSomeFormula call d → HasFaulted d call.proof → LratStops call d out stop
   proof_long : stop ≡ stops.TooLong files.Proof → HasSomeFormula call d → IsTooLong d files.Proof call.proof → LratStops call d out stop
   bad_proof : (line : ℕ) (kind : LratKind) → stop ≡ stops.Refused (refusals.Proof line kind) → HasSomeFormula call d
-      → IfSome (d.text call.proof) (HasProofFault line kind) → LratStops call d out stop
+      → IfSome (d.old.text call.proof) (HasProofFault line kind) → LratStops call d out stop
   bad_step : (step : ℕ) (kind : ProofKind) → stop ≡ stops.Refused (refusals.Step step kind) → (f : CnfFormula) (p : List LratStep) → HasFormula call d f → HasProof call d p
       → first_fault f p ≡ Some (step, kind) → LratStops call d out stop
   not_accepted_written : stop ≡ stops.CannotWrite → Failed out → (bytes : List ℕ) (settled : Bool) → IsLratOutput call d bytes settled → LratStops call d out stop
@@ -75,12 +114,12 @@ refused_formula line dimacs.Limit other = absurd (other refl)
 
 pub lrat_stops : (call : LratCall) (d : DeskSeen) (out : SinkSeen) (stop : Stop) → Cause (Lrat call) d out stop → LratStops call d out stop
 lrat_stops call d out stops.Usage cause = absurd cc
-lrat_stops call d out (stops.Unreadable files.Circuit) cause = absurd cause.0
-lrat_stops call d out (stops.Unreadable files.Signals) cause = absurd cause.0
+lrat_stops call d out (stops.Unreadable files.Circuit) cause = absurd cause.1
+lrat_stops call d out (stops.Unreadable files.Signals) cause = absurd cause.1
 lrat_stops call d out (stops.Unreadable files.Formula) cause = formula_unreadable refl cause.1
 lrat_stops call d out (stops.Unreadable files.Proof) cause = proof_unreadable refl cause.0 cause.1
-lrat_stops call d out (stops.TooLong files.Circuit) cause = absurd cause.0
-lrat_stops call d out (stops.TooLong files.Signals) cause = absurd cause.0
+lrat_stops call d out (stops.TooLong files.Circuit) cause = absurd cause.1
+lrat_stops call d out (stops.TooLong files.Signals) cause = absurd cause.1
 lrat_stops call d out (stops.TooLong files.Formula) cause = formula_long refl cause.1
 lrat_stops call d out (stops.TooLong files.Proof) cause = proof_long refl cause.0 cause.1
 lrat_stops call d out (stops.TooLarge measures.Formula) cause = bad_formula cause.0 dimacs.Limit refl cause.1
@@ -96,8 +135,8 @@ lrat_stops call d out stops.OutOfMemory cause = no_memory refl
 
 help_stops : (d : DeskSeen) (out : SinkSeen) (stop : Stop) → Cause Help d out stop → Failed out ⊎ (stop ≡ stops.OutOfMemory)
 help_stops d out stops.Usage cause = absurd cc
-help_stops d out (stops.Unreadable f) cause = absurd cause.0
-help_stops d out (stops.TooLong f) cause = absurd cause.0
+help_stops d out (stops.Unreadable f) cause = absurd cause.1
+help_stops d out (stops.TooLong f) cause = absurd cause.1
 help_stops d out (stops.TooLarge m) cause = absurd cause
 help_stops d out (stops.BadCircuit at kind) cause = absurd cause
 help_stops d out (stops.BadSignals line kind) cause = absurd cause
@@ -107,8 +146,8 @@ help_stops d out stops.OutOfMemory cause = inr refl
 
 version_stops : (d : DeskSeen) (out : SinkSeen) (stop : Stop) → Cause Version d out stop → Failed out ⊎ (stop ≡ stops.OutOfMemory)
 version_stops d out stops.Usage cause = absurd cc
-version_stops d out (stops.Unreadable f) cause = absurd cause.0
-version_stops d out (stops.TooLong f) cause = absurd cause.0
+version_stops d out (stops.Unreadable f) cause = absurd cause.1
+version_stops d out (stops.TooLong f) cause = absurd cause.1
 version_stops d out (stops.TooLarge m) cause = absurd cause
 version_stops d out (stops.BadCircuit at kind) cause = absurd cause
 version_stops d out (stops.BadSignals line kind) cause = absurd cause
@@ -117,7 +156,7 @@ version_stops d out stops.CannotWrite cause = inl cause.0
 version_stops d out stops.OutOfMemory cause = inr refl
 
 -- a command with a fixed text stops only where it isn't written, or for want of memory
-pub fixed_stops : (command : Command) (d : DeskSeen) (out : SinkSeen) (stop : Stop) → (command ≡ Help) ⊎ (command ≡ Version) → Cause command d out stop
+pub fixed_stops : (command : Meaning) (d : DeskSeen) (out : SinkSeen) (stop : Stop) → (command ≡ Help) ⊎ (command ≡ Version) → Cause command d out stop
     → Failed out ⊎ (stop ≡ stops.OutOfMemory)
-fixed_stops command d out stop (inl e) cause = help_stops d out stop (subst (λ (x : Command). Cause x d out stop) e cause)
-fixed_stops command d out stop (inr e) cause = version_stops d out stop (subst (λ (x : Command). Cause x d out stop) e cause)
+fixed_stops command d out stop (inl e) cause = help_stops d out stop (subst (λ (x : Meaning). Cause x d out stop) e cause)
+fixed_stops command d out stop (inr e) cause = version_stops d out stop (subst (λ (x : Meaning). Cause x d out stop) e cause)

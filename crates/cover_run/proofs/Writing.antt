@@ -9,7 +9,7 @@ use Rattle.cover_run.specs.Seen.{SinkSeen, Failed}
 abbrev pub Fails : WriteFault → Result (Unit {0}) WriteFault
 Fails fault = Err fault
 
-pub failed-by : (s : SinkSeen) (fault : WriteFault) → (Fails fault ≡ Err faults.Failed → Rose s.faults s.faults_after)
-    → (Fails fault ≡ Err faults.TookNothing → Rose s.idle s.idle_after) → Failed s
+pub failed-by : (s : SinkSeen) (fault : WriteFault) → (Fails fault ≡ Err faults.Failed → Rose s.old.faults s.new.faults)
+    → (Fails fault ≡ Err faults.TookNothing → Rose s.old.idle s.new.idle) → Failed s
 failed-by s faults.Failed failed idle = inl (failed refl)
 failed-by s faults.TookNothing failed idle = inr (idle refl)

@@ -4,9 +4,9 @@ use Rattle.aig_model.specs.declared.parts.Parts.{Parts}
 use Rattle.aig_model.specs.declared.trace.Trace.{Trace}
 use Rattle.report_text.specs.declared.report.GoalBlock.{GoalBlock}
 use Rattle.report_text.specs.declared.report.GoalBlock.TheVariants as blocks
-use Rattle.cover_run.specs.declared.walk.Visit.{Visit}
-use Rattle.cover_run.specs.Walk.{IsZeroTrace, goals_of}
-use Rattle.cover_run.specs.Report.{IsUnbounded}
+use Rattle.sim_walk.specs.declared.visit.Visit.{Visit}
+use Rattle.sim_walk.specs.Walk.{goals_of}
+use Rattle.sim_walk.specs.Zero.{IsZeroTrace}
 
 -- of the goal nothing is known
 abbrev pub open_block : GoalBlock
@@ -23,7 +23,7 @@ pub record IsVisitedBy (c : Parts) (vs : List Visit) (goal n : ℕ) (witness : T
 abbrev pub IsBlockFrom : Parts → List Visit → ℕ → GoalBlock → Type 0
 IsBlockFrom c vs goal (blocks.Reached n witness) = IsVisitedBy c vs goal n witness
 IsBlockFrom c vs goal (blocks.Open depth hops strength) =
-    (¬ Contains (goals_of vs) goal) × IsUnbounded (record { depth = depth; hops = hops; strength = strength })
+    (¬ Contains (goals_of vs) goal) × (blocks.Open depth hops strength ≡ open_block)
 
 -- the blocks of so many goals
 pub record AreBlocksFrom (c : Parts) (vs : List Visit) (count : ℕ) (bs : List GoalBlock) : Type 0 where

@@ -39,10 +39,10 @@ pub record HasProofFault (line : ℕ) (kind : LratKind) (t : List ℕ) : Type 0 
 
 -- the texts, where they are told, spell this formula and this proof
 abbrev pub HasFormula : LratCall → DeskSeen → CnfFormula → Type 0
-HasFormula call d f = IfSome (d.text call.formula) (IsFormulaText f)
+HasFormula call d f = IfSome (d.old.text call.formula) (IsFormulaText f)
 
 abbrev pub HasProof : LratCall → DeskSeen → List LratStep → Type 0
-HasProof call d p = IfSome (d.text call.proof) (IsProofText p)
+HasProof call d p = IfSome (d.old.text call.proof) (IsProofText p)
 
 -- the formula was read before the proof was looked at
 abbrev pub HasSomeFormula : LratCall → DeskSeen → Type 0
@@ -51,12 +51,12 @@ HasSomeFormula call d = (f : CnfFormula) × HasFormula call d f
 -- ---- the refusals
 -- the formula's header is past the limits
 abbrev pub HasLargeFormula : LratCall → DeskSeen → Type 0
-HasLargeFormula call d = (line : ℕ) × IfSome (d.text call.formula) (HasFormulaFault line dimacs.Limit)
+HasLargeFormula call d = (line : ℕ) × IfSome (d.old.text call.formula) (HasFormulaFault line dimacs.Limit)
 
 -- what is wrong first: in the formula's text, in the proof's text, or in a step
 abbrev pub Refuses : LratCall → DeskSeen → Refusal → Type 0
-Refuses call d (refusals.Formula line kind) = (kind ≢ dimacs.Limit) × IfSome (d.text call.formula) (HasFormulaFault line kind)
-Refuses call d (refusals.Proof line kind) = HasSomeFormula call d × IfSome (d.text call.proof) (HasProofFault line kind)
+Refuses call d (refusals.Formula line kind) = (kind ≢ dimacs.Limit) × IfSome (d.old.text call.formula) (HasFormulaFault line kind)
+Refuses call d (refusals.Proof line kind) = HasSomeFormula call d × IfSome (d.old.text call.proof) (HasProofFault line kind)
 Refuses call d (refusals.Step step kind) =
     (f : CnfFormula) × (p : List LratStep) × HasFormula call d f × HasProof call d p × (first_fault f p ≡ Some (step, kind))
 

@@ -1,16 +1,18 @@
 -- What `cover` reads and writes.
 use Rattle.std.specs.Prelude.{◌≡◌, ℕ, ◌+◌, ◌*◌, ◌<◌, ◌≤◌, max, Bool, nat_eq, List, length, IfSome}
+use Rattle.aig_model.specs.SignalList.{IsSignals}
+use Rattle.aig_model.specs.WellFormed.{IsCircuit}
 use Rattle.aig_model.specs.declared.parts.Parts.{Parts}
 use Rattle.aig_ascii.specs.Aag.{SpellsCircuit, IsFirstFault as IsFirstInCircuit}
 use Rattle.aig_ascii.specs.declared.fault.AagKind.{AagKind}
-use Rattle.report_text.specs.declared.options.Options.{Options}
+use Rattle.sim_walk.specs.declared.options.Options.{Options}
 use Rattle.cover_run.specs.declared.stop.File.TheVariants as files
 use Rattle.cover_run.specs.declared.stop.Measure.{Measure}
 use Rattle.cover_run.specs.declared.stop.Measure.TheVariants as measures
 use Rattle.cover_run.specs.Files.{limit_of}
 use Rattle.cover_run.specs.Report.{IsReport}
 use Rattle.cover_run.specs.Seen.{DeskSeen}
-use Rattle.cover_run.specs.Words.{CoverCall}
+use Rattle.cover_run.specs.Words.{Subject, CoverCall}
 use Rattle.signal_list.specs.SignalText.{SpellsSignals, IsFirstFault as IsFirstInSignals}
 use Rattle.signal_list.specs.declared.fault.SigKind.{SigKind}
 
@@ -34,15 +36,15 @@ pub record HasSignalsFault (c : Parts) (line : ℕ) (kind : SigKind) (t : List �
   pub first : IsFirstInSignals c t line kind
 
 -- the texts, where they are told, are accepted as this circuit and these signals
-abbrev pub HasCircuit : CoverCall → DeskSeen → Parts → Type 0
-HasCircuit call d c = IfSome (d.text call.circuit) (IsCircuitText c)
+abbrev pub HasCircuit : Subject → DeskSeen → Parts → Type 0
+HasCircuit s d c = IfSome (d.old.text s.circuit) (IsCircuitText c)
 
-abbrev pub HasSignals : CoverCall → DeskSeen → Parts → List ℕ → Type 0
-HasSignals call d c sig = IfSome (d.text call.signals) (IsSignalsText c sig)
+abbrev pub HasSignals : Subject → DeskSeen → Parts → List ℕ → Type 0
+HasSignals s d c sig = IfSome (d.old.text s.signals) (IsSignalsText c sig)
 
--- the circuit was accepted before the signals were looked at
-abbrev pub HasSomeCircuit : CoverCall → DeskSeen → Type 0
-HasSomeCircuit call d = (c : Parts) × HasCircuit call d c
+-- the circuit is accepted
+abbrev pub HasSomeCircuit : Subject → DeskSeen → Type 0
+HasSomeCircuit s d = (c : Parts) × HasCircuit s d c
 
 -- ---- the sizes of a run
 -- the frames of the longest search, and a walk: how many truth values each may take
@@ -64,23 +66,26 @@ IsTooMuch o c measures.Walk = (frames_of o c ≤ 4000000) × (2000000 < walk_of 
 IsTooMuch o c m = ⊥
 
 -- ---- the refusals
-abbrev pub RefusesCircuit : CoverCall → DeskSeen → ℕ → AagKind → Type 0
-RefusesCircuit call d at kind = IfSome (d.text call.circuit) (HasCircuitFault at kind)
+abbrev pub RefusesCircuit : Subject → DeskSeen → ℕ → AagKind → Type 0
+RefusesCircuit s d at kind = IfSome (d.old.text s.circuit) (HasCircuitFault at kind)
 
-abbrev pub RefusesSignals : CoverCall → DeskSeen → ℕ → SigKind → Type 0
-RefusesSignals call d line kind = (c : Parts) × HasCircuit call d c × IfSome (d.text call.signals) (HasSignalsFault c line kind)
+abbrev pub RefusesSignals : Subject → DeskSeen → ℕ → SigKind → Type 0
+RefusesSignals s d line kind = (c : Parts) × HasCircuit s d c × IfSome (d.old.text s.signals) (HasSignalsFault c line kind)
 
 -- both texts are accepted, and what is asked for is too much
 abbrev pub HasTooMuch : CoverCall → DeskSeen → Measure → Type 0
-HasTooMuch call d m = (c : Parts) × (sig : List ℕ) × HasCircuit call d c × HasSignals call d c sig × IsTooMuch call.options c m
+HasTooMuch call d m = (c : Parts) × (sig : List ℕ) × HasCircuit call.subject d c × HasSignals call.subject d c sig × IsTooMuch call.options c m
 
 -- ---- the output
--- These bytes are the whole output, and this says whether it leaves nothing open.
+-- These bytes are the whole output, and this says whether it leaves nothing open. The circuit and the signals are well formed
+-- on any desk, and the ones of the texts where these are told.
 pub record IsCoverOutput (call : CoverCall) (d : DeskSeen) (bytes : List ℕ) (settled : Bool) : Type 0 where
   pub circuit : Parts
   pub signals : List ℕ
-  pub has_circuit : HasCircuit call d circuit
-  pub has_signals : HasSignals call d circuit signals
+  pub right_circuit : IsCircuit circuit
+  pub right_signals : IsSignals circuit signals
+  pub has_circuit : HasCircuit call.subject d circuit
+  pub has_signals : HasSignals call.subject d circuit signals
   pub room : HasRoom call.options circuit
   pub is_report : IsReport circuit signals call.options bytes
   pub settled_is : settled ≡ nat_eq is_report.report.unsettled 0

@@ -1,12 +1,12 @@
 pub mod About
 pub mod Answer
 pub mod Blocks
+pub mod Bounds
 pub mod Checking
+pub mod Commands
 pub mod Covering
 pub mod Files
-pub mod FirstVisits
-pub mod History
-pub mod Orders
+pub mod Found
 pub mod Posts
 pub mod Promises
 pub mod Report
@@ -15,5 +15,4 @@ pub mod Settings
 pub mod Steps
 pub mod Stops
 pub mod Summed
-pub mod Walk
 pub mod Words

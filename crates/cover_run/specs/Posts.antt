@@ -2,9 +2,9 @@
 use Rattle.std.specs.Prelude.{ℕ, List, map}
 use Rattle.std.specs.List.{enumerate_from}
 use Rattle.aig_model.specs.declared.parts.Kind.TheVariants.{Reached}
-use Rattle.report_text.specs.declared.report.Source.TheVariants.{Zero}
-use Rattle.report_text.specs.declared.report.Entry.{Entry}
-use Rattle.cover_run.specs.declared.walk.Visit.{Visit}
+use Rattle.board_core.specs.declared.entry.Source.TheVariants.{Zero}
+use Rattle.board_core.specs.declared.entry.Entry.{Entry}
+use Rattle.sim_walk.specs.declared.visit.Visit.{Visit}
 
 -- the entry of a visit, by a caller that has seen all entries before it
 abbrev pub post_of : ℕ → Visit → Entry

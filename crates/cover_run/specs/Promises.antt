@@ -1,5 +1,5 @@
 -- The promises of a run, each readable by itself.
-use Rattle.std.specs.Prelude.{◌≡◌, ◌⊎◌, ◌↔◌, ℕ, ◌<◌, ◌≤◌, false, List, length, slice_get, codes, Option, Some, None, IfSome, IsSomeAnd}
+use Rattle.std.specs.Prelude.{◌≡◌, ◌⊎◌, ◌↔◌, ℕ, ◌<◌, ◌≤◌, Bool, List, length, codes, Option, Some, None, IfSome, IsSomeAnd}
 use Rattle.aig_model.specs.declared.parts.Parts.{Parts}
 use Rattle.cnf_base.specs.Dimacs.{SpellsFormula, IsFirstFault as IsFirstInFormula}
 use Rattle.cnf_base.specs.Meaning.{CnfFormula, HasNoModel}
@@ -14,7 +14,6 @@ use Rattle.signal_list.specs.declared.fault.SigKind.{SigKind}
 use Rattle.lrat_text.specs.Accepted.{Accepted}
 use Rattle.lrat_check.specs.FirstFault.{first_fault}
 use Rattle.lrat_check.specs.declared.fault.ProofKind.{ProofKind}
-use Rattle.report_text.specs.declared.report.GoalBlock.{GoalBlock}
 use Rattle.cover_run.specs.declared.stop.File.{File}
 use Rattle.cover_run.specs.declared.stop.File.TheVariants as files
 use Rattle.cover_run.specs.declared.stop.Measure.{Measure}
@@ -24,53 +23,54 @@ use Rattle.cover_run.specs.declared.stop.Stop.{Stop}
 use Rattle.cover_run.specs.declared.stop.Stop.TheVariants as stops
 use Rattle.cover_run.specs.declared.stop.Status.{Status}
 use Rattle.cover_run.specs.declared.stop.Status.TheVariants as statuses
-use Rattle.cover_run.specs.Answer.{Cause, HasBadCircuit, HasBadSignals, IsTooLarge, IsRefused, IsPartial}
+use Rattle.run_io.specs.Desk.{HasSameFaults}
+use Rattle.cover_run.specs.Answer.{Cause, HasBadCircuit, HasBadSignals, IsTooLarge, IsRefused, IsOutput, IsPartial}
 use Rattle.cover_run.specs.About.{help_text, version_text}
 use Rattle.cover_run.specs.Checking.{formula_stop}
 use Rattle.cover_run.specs.Covering.{HasRoom, IsTooMuch}
-use Rattle.cover_run.specs.Files.{name_of, limit_of, IsTooLong, IsWithin}
-use Rattle.cover_run.specs.Report.{IsReport, Asked, bounds_of, is_open}
+use Rattle.cover_run.specs.Files.{subject_of, files_of, name_of, limit_of, IsTooLong, IsWithin, IsPast}
+use Rattle.cover_run.specs.Report.{IsReport, SettlesAsked}
 use Rattle.cover_run.specs.Seen.{DeskSeen, SinkSeen, HasFaulted, Failed, Took, TookWhatItCould}
-use Rattle.cover_run.specs.Stops.{line_of, status_of}
-use Rattle.cover_run.specs.Words.{CoverCall, LratCall, Command, Help, Version, Cover, Lrat}
+use Rattle.cover_run.specs.Stops.{line_of, status_of, settled_status}
+use Rattle.cover_run.specs.Words.{Subject, CoverCall, LratCall, Meaning, Help, Version, Cover, Lrat}
 
 -- ---- premises
 -- the desk tells this text of the file's name, within the file's limit, and no fault of the name was counted
 pub record IsTold (d : DeskSeen) (f : File) (name t : List ℕ) : Type 0 where
-  pub told : d.text name ≡ Some t
+  pub told : d.old.text name ≡ Some t
   pub short : length t ≤ limit_of f
   pub no_fault : ¬ HasFaulted d name
 
 -- the desk tells a text past the file's limit, and no fault of the name was counted
 pub record IsToldTooLong (d : DeskSeen) (f : File) (name t : List ℕ) : Type 0 where
-  pub told : d.text name ≡ Some t
+  pub told : d.old.text name ≡ Some t
   pub long : limit_of f < length t
   pub no_fault : ¬ HasFaulted d name
 
 -- the texts that the desk tells are accepted within their limits as this circuit and these signals
 pub record Accepts (call : CoverCall) (d : DeskSeen) (c : Parts) (sig : List ℕ) : Type 0 where
   pub circuit_text : List ℕ
-  pub circuit_told : d.text call.circuit ≡ Some circuit_text
+  pub circuit_told : d.old.text call.subject.circuit ≡ Some circuit_text
   pub circuit_short : length circuit_text ≤ limit_of files.Circuit
   pub circuit : SpellsCircuit circuit_text c
   pub signals_text : List ℕ
-  pub signals_told : d.text call.signals ≡ Some signals_text
+  pub signals_told : d.old.text call.subject.signals ≡ Some signals_text
   pub signals_short : length signals_text ≤ limit_of files.Signals
   pub signals : SpellsSignals c signals_text sig
 
 -- the texts that the desk tells spell this formula and this proof within their limits
 pub record Spells (call : LratCall) (d : DeskSeen) (f : CnfFormula) (p : List LratStep) : Type 0 where
   pub formula_text : List ℕ
-  pub formula_told : d.text call.formula ≡ Some formula_text
+  pub formula_told : d.old.text call.formula ≡ Some formula_text
   pub formula_short : length formula_text ≤ limit_of files.Formula
   pub formula : SpellsFormula formula_text f
   pub proof_text : List ℕ
-  pub proof_told : d.text call.proof ≡ Some proof_text
+  pub proof_told : d.old.text call.proof ≡ Some proof_text
   pub proof_short : length proof_text ≤ limit_of files.Proof
   pub proof : SpellsProof proof_text p
 
 -- no fault of the command's files, and no fault and no idle write of the output, was counted
-pub record IsUndisturbed (command : Command) (d : DeskSeen) (out : SinkSeen) : Type 0 where
+pub record IsUndisturbed (command : Meaning) (d : DeskSeen) (out : SinkSeen) : Type 0 where
   pub files : (f : File) → IfSome (name_of command f) (λ name. ¬ HasFaulted d name)
   pub output : ¬ Failed out
 
@@ -92,22 +92,17 @@ pub record IsCovered (call : CoverCall) (c : Parts) (sig : List ℕ) (out : Sink
   pub ended : HasEnded status
   pub settled : (status ≡ statuses.Settled) ↔ (is_report.report.unsettled ≡ 0)
 
-abbrev pub Headline : Command → DeskSeen → SinkSeen → Status → Type 0
+abbrev pub Headline : Meaning → DeskSeen → SinkSeen → Status → Type 0
 Headline command d out status =
     (call : CoverCall) (c : Parts) (sig : List ℕ) → command ≡ Cover call → Accepts call d c sig → HasEnded status → IsCovered call c sig out status
 
 -- ---- completeness
--- each goal that the options ask for, as far as the printed bounds reach, is printed settled
-abbrev pub SettlesAsked : Parts → List ℕ → CoverCall → List GoalBlock → Type 0
-SettlesAsked c sig call blocks =
-    (goal : ℕ) (b : GoalBlock) → slice_get blocks goal ≡ Some b → Asked c sig call.options (bounds_of b) goal → is_open b ≡ false
-
 pub record IsComplete (call : CoverCall) (c : Parts) (sig : List ℕ) (out : SinkSeen) (status : Status) : Type 0 where
   pub covered : IsCovered call c sig out status
-  pub asked : SettlesAsked c sig call covered.is_report.report.goals
+  pub asked : SettlesAsked c sig covered.is_report.report
 
 -- with no cause of a refusal and no fault, the whole report is written, want of memory aside
-abbrev pub Completeness : Command → DeskSeen → SinkSeen → Status → Type 0
+abbrev pub Completeness : Meaning → DeskSeen → SinkSeen → Status → Type 0
 Completeness command d out status =
     (call : CoverCall) (c : Parts) (sig : List ℕ) → command ≡ Cover call → Accepts call d c sig → HasRoom call.options c → IsUndisturbed command d out
     → IsComplete call c sig out status ⊎ (status ≡ statuses.WantOfMemory)
@@ -121,18 +116,18 @@ pub record IsProved (f : CnfFormula) (p : List LratStep) (out : SinkSeen) (statu
   pub took : Took out (codes "accepted\n")
 
 -- status 0 or 1 comes only where the proof is accepted, and is 0
-abbrev pub AcceptedCause : Command → DeskSeen → SinkSeen → Status → Type 0
+abbrev pub AcceptedCause : Meaning → DeskSeen → SinkSeen → Status → Type 0
 AcceptedCause command d out status =
     (call : LratCall) (f : CnfFormula) (p : List LratStep) → command ≡ Lrat call → Spells call d f p → HasEnded status → IsProved f p out status
 
 -- and there it comes, where nothing failed
-abbrev pub AcceptedComes : Command → DeskSeen → SinkSeen → Status → Type 0
+abbrev pub AcceptedComes : Meaning → DeskSeen → SinkSeen → Status → Type 0
 AcceptedComes command d out status =
     (call : LratCall) (f : CnfFormula) (p : List LratStep) → command ≡ Lrat call → Spells call d f p → Accepted f p → IsUndisturbed command d out
     → IsProved f p out status ⊎ (status ≡ statuses.WantOfMemory)
 
 -- ---- a text that is always the same
-abbrev pub fixed_text : Command → Option (List ℕ)
+abbrev pub fixed_text : Meaning → Option (List ℕ)
 fixed_text Help = Some help_text
 fixed_text Version = Some version_text
 fixed_text command = None
@@ -143,99 +138,117 @@ pub record IsPrinted (text : List ℕ) (out : SinkSeen) (status : Status) : Type
   pub took : Took out text
 
 -- status 0 or 1 comes only with the text, and is 0
-abbrev pub PrintedCause : Command → SinkSeen → Status → Type 0
+abbrev pub PrintedCause : Meaning → SinkSeen → Status → Type 0
 PrintedCause command out status = (text : List ℕ) → fixed_text command ≡ Some text → HasEnded status → IsPrinted text out status
 
 -- and there it comes, where nothing failed
-abbrev pub PrintedComes : Command → SinkSeen → Status → Type 0
+abbrev pub PrintedComes : Meaning → SinkSeen → Status → Type 0
 PrintedComes command out status = (text : List ℕ) → fixed_text command ≡ Some text → ¬ Failed out → IsPrinted text out status ⊎ (status ≡ statuses.WantOfMemory)
+
+-- ---- statuses 0 and 1, on any desk
+-- the whole output was taken, it is one that is right for what was read, and the status says whether it leaves something open
+pub record IsWritten (command : Meaning) (d : DeskSeen) (out : SinkSeen) (status : Status) : Type 0 where
+  pub bytes : List ℕ
+  pub settled : Bool
+  pub output : IsOutput command d bytes settled
+  pub took : Took out bytes
+  pub status_is : status ≡ settled_status settled
+
+abbrev pub WrittenCause : Meaning → DeskSeen → SinkSeen → Status → Type 0
+WrittenCause command d out status = HasEnded status → IsWritten command d out status
 
 -- ---- causes, status by status
 -- only where the faults of the file in the line rose
-abbrev pub ReadFaultCause : Command → DeskSeen → SinkSeen → Status → Type 0
+abbrev pub ReadFaultCause : Meaning → DeskSeen → SinkSeen → Status → Type 0
 ReadFaultCause command d err status =
     status ≡ statuses.ReadFault → (f : File) × IsSomeAnd (name_of command f) (HasFaulted d) × TookWhatItCould err (line_of (stops.Unreadable f))
 
 -- only where the circuit's text has the first fault that the line says
-abbrev pub BadCircuitCause : Command → DeskSeen → SinkSeen → Status → Type 0
+abbrev pub BadCircuitCause : Meaning → DeskSeen → SinkSeen → Status → Type 0
 BadCircuitCause command d err status =
     status ≡ statuses.BadCircuit → (at : ℕ) × (kind : AagKind) × HasBadCircuit command d at kind × TookWhatItCould err (line_of (stops.BadCircuit at kind))
 
 -- only where a circuit is spelled, and the signals' text has the first fault that the line says
-abbrev pub BadSignalsCause : Command → DeskSeen → SinkSeen → Status → Type 0
+abbrev pub BadSignalsCause : Meaning → DeskSeen → SinkSeen → Status → Type 0
 BadSignalsCause command d err status =
     status ≡ statuses.BadSignals → (line : ℕ) × (kind : SigKind) × HasBadSignals command d line kind × TookWhatItCould err (line_of (stops.BadSignals line kind))
 
--- only where a byte past the limit of the file in the line was given, or the number in the line is past its limit
-abbrev pub LimitCause : Command → DeskSeen → SinkSeen → Status → Type 0
+-- only where a byte past the limit of the file in the line was given, and none past that of a file before it; or where the number
+-- in the line is past its limit
+abbrev pub LimitCause : Meaning → DeskSeen → SinkSeen → Status → Type 0
 LimitCause command d err status =
     status ≡ statuses.Limit
-    → ((f : File) × IsSomeAnd (name_of command f) (IsTooLong d f) × TookWhatItCould err (line_of (stops.TooLong f)))
-    ⊎ ((m : Measure) × IsTooLarge command d m × TookWhatItCould err (line_of (stops.TooLarge m)))
+    → ((f : File) × IsSomeAnd (name_of command f) (IsTooLong d f) × IsPast (files_of command) d f × TookWhatItCould err (line_of (stops.TooLong f)))
+    ⊎ ((m : Measure) × IsTooLarge command d m × IsWithin (files_of command) d × TookWhatItCould err (line_of (stops.TooLarge m)))
 
 -- under every other status no file was given past its limit
-abbrev pub WithinLimits : Command → DeskSeen → Status → Type 0
-WithinLimits command d status = ¬ (status ≡ statuses.Limit) → IsWithin command d
+abbrev pub WithinLimits : Meaning → DeskSeen → Status → Type 0
+WithinLimits command d status = ¬ (status ≡ statuses.Limit) → IsWithin (files_of command) d
+
+-- under every other status than 3 no fault was counted
+abbrev pub NoFault : DeskSeen → Status → Type 0
+NoFault d status = ¬ (status ≡ statuses.ReadFault) → HasSameFaults d.old d.new
 
 -- only where the reader or checker that the line names refuses so
-abbrev pub RefusedCause : Command → DeskSeen → SinkSeen → Status → Type 0
+abbrev pub RefusedCause : Meaning → DeskSeen → SinkSeen → Status → Type 0
 RefusedCause command d err status = status ≡ statuses.Refused → (why : Refusal) × IsRefused command d why × TookWhatItCould err (line_of (stops.Refused why))
 
--- ---- the refusals of `cover` come
-abbrev pub BadCircuitComes : Command → DeskSeen → SinkSeen → Status → Type 0
+-- ---- the refusals of a circuit and of signals come, whatever command reads them
+abbrev pub BadCircuitComes : Meaning → DeskSeen → SinkSeen → Status → Type 0
 BadCircuitComes command d err status =
-    (call : CoverCall) (t : List ℕ) (at : ℕ) (kind : AagKind) → command ≡ Cover call → IsTold d files.Circuit call.circuit t → IsFirstInCircuit t at kind
+    (s : Subject) (t : List ℕ) (at : ℕ) (kind : AagKind) → subject_of command ≡ Some s → IsTold d files.Circuit s.circuit t → IsFirstInCircuit t at kind
     → Answers err status (stops.BadCircuit at kind)
 
-abbrev pub BadSignalsComes : Command → DeskSeen → SinkSeen → Status → Type 0
+abbrev pub BadSignalsComes : Meaning → DeskSeen → SinkSeen → Status → Type 0
 BadSignalsComes command d err status =
-    (call : CoverCall) (t : List ℕ) (c : Parts) (u : List ℕ) (line : ℕ) (kind : SigKind) → command ≡ Cover call → IsTold d files.Circuit call.circuit t
-    → SpellsCircuit t c → IsTold d files.Signals call.signals u → IsFirstInSignals c u line kind → Answers err status (stops.BadSignals line kind)
-
--- what is asked of a circuit and signals that are accepted is too much
-abbrev pub TooMuchComes : Command → DeskSeen → SinkSeen → Status → Type 0
-TooMuchComes command d err status =
-    (call : CoverCall) (t : List ℕ) (c : Parts) (u sig : List ℕ) (m : Measure) → command ≡ Cover call → IsTold d files.Circuit call.circuit t → SpellsCircuit t c
-    → IsTold d files.Signals call.signals u → SpellsSignals c u sig → IsTooMuch call.options c m → Answers err status (stops.TooLarge m)
+    (s : Subject) (t : List ℕ) (c : Parts) (u : List ℕ) (line : ℕ) (kind : SigKind) → subject_of command ≡ Some s → IsTold d files.Circuit s.circuit t
+    → SpellsCircuit t c → IsTold d files.Signals s.signals u → IsFirstInSignals c u line kind → Answers err status (stops.BadSignals line kind)
 
 -- a circuit that is told and too long is refused so
-abbrev pub LongCircuitComes : Command → DeskSeen → SinkSeen → Status → Type 0
+abbrev pub LongCircuitComes : Meaning → DeskSeen → SinkSeen → Status → Type 0
 LongCircuitComes command d err status =
-    (call : CoverCall) (t : List ℕ) → command ≡ Cover call → IsToldTooLong d files.Circuit call.circuit t → Answers err status (stops.TooLong files.Circuit)
+    (s : Subject) (t : List ℕ) → subject_of command ≡ Some s → IsToldTooLong d files.Circuit s.circuit t → Answers err status (stops.TooLong files.Circuit)
 
 -- and signals, where the circuit is accepted
-abbrev pub LongSignalsComes : Command → DeskSeen → SinkSeen → Status → Type 0
+abbrev pub LongSignalsComes : Meaning → DeskSeen → SinkSeen → Status → Type 0
 LongSignalsComes command d err status =
-    (call : CoverCall) (t : List ℕ) (c : Parts) (u : List ℕ) → command ≡ Cover call → IsTold d files.Circuit call.circuit t → SpellsCircuit t c
-    → IsToldTooLong d files.Signals call.signals u → Answers err status (stops.TooLong files.Signals)
+    (s : Subject) (t : List ℕ) (c : Parts) (u : List ℕ) → subject_of command ≡ Some s → IsTold d files.Circuit s.circuit t → SpellsCircuit t c
+    → IsToldTooLong d files.Signals s.signals u → Answers err status (stops.TooLong files.Signals)
+
+-- ---- the refusal of `cover` alone comes
+-- what is asked of a circuit and signals that are accepted is too much
+abbrev pub TooMuchComes : Meaning → DeskSeen → SinkSeen → Status → Type 0
+TooMuchComes command d err status =
+    (call : CoverCall) (t : List ℕ) (c : Parts) (u sig : List ℕ) (m : Measure) → command ≡ Cover call → IsTold d files.Circuit call.subject.circuit t → SpellsCircuit t c
+    → IsTold d files.Signals call.subject.signals u → SpellsSignals c u sig → IsTooMuch call.options c m → Answers err status (stops.TooLarge m)
 
 -- ---- the refusals of `lrat` come
 -- a formula's text has a first fault
-abbrev pub BadFormulaComes : Command → DeskSeen → SinkSeen → Status → Type 0
+abbrev pub BadFormulaComes : Meaning → DeskSeen → SinkSeen → Status → Type 0
 BadFormulaComes command d err status =
     (call : LratCall) (t : List ℕ) (line : ℕ) (kind : DimacsKind) → command ≡ Lrat call → IsTold d files.Formula call.formula t → IsFirstInFormula t line kind
     → Answers err status (formula_stop line kind)
 
 -- the formula is spelled, and the proof's text has a first fault
-abbrev pub BadProofComes : Command → DeskSeen → SinkSeen → Status → Type 0
+abbrev pub BadProofComes : Meaning → DeskSeen → SinkSeen → Status → Type 0
 BadProofComes command d err status =
     (call : LratCall) (t : List ℕ) (f : CnfFormula) (u : List ℕ) (line : ℕ) (kind : LratKind) → command ≡ Lrat call → IsTold d files.Formula call.formula t
     → SpellsFormula t f → IsTold d files.Proof call.proof u → IsFirstInProof u line kind → Answers err status (stops.Refused (refusals.Proof line kind))
 
 -- both are spelled, and the proof has a first fault
-abbrev pub BadStepComes : Command → DeskSeen → SinkSeen → Status → Type 0
+abbrev pub BadStepComes : Meaning → DeskSeen → SinkSeen → Status → Type 0
 BadStepComes command d err status =
     (call : LratCall) (t : List ℕ) (f : CnfFormula) (u : List ℕ) (p : List LratStep) (step : ℕ) (kind : ProofKind) → command ≡ Lrat call
     → IsTold d files.Formula call.formula t → SpellsFormula t f → IsTold d files.Proof call.proof u → SpellsProof u p → first_fault f p ≡ Some (step, kind)
     → Answers err status (stops.Refused (refusals.Step step kind))
 
 -- a formula that is told and too long is refused so
-abbrev pub LongFormulaComes : Command → DeskSeen → SinkSeen → Status → Type 0
+abbrev pub LongFormulaComes : Meaning → DeskSeen → SinkSeen → Status → Type 0
 LongFormulaComes command d err status =
     (call : LratCall) (t : List ℕ) → command ≡ Lrat call → IsToldTooLong d files.Formula call.formula t → Answers err status (stops.TooLong files.Formula)
 
 -- and a proof, where the formula is spelled
-abbrev pub LongProofComes : Command → DeskSeen → SinkSeen → Status → Type 0
+abbrev pub LongProofComes : Meaning → DeskSeen → SinkSeen → Status → Type 0
 LongProofComes command d err status =
     (call : LratCall) (t : List ℕ) (f : CnfFormula) (u : List ℕ) → command ≡ Lrat call → IsTold d files.Formula call.formula t → SpellsFormula t f
     → IsToldTooLong d files.Proof call.proof u → Answers err status (stops.TooLong files.Proof)
@@ -245,14 +258,14 @@ LongProofComes command d err status =
 abbrev pub IsEarly : Status → Type 0
 IsEarly status =
     (status ≡ statuses.Usage) ⊎ (status ≡ statuses.ReadFault) ⊎ (status ≡ statuses.BadCircuit) ⊎ (status ≡ statuses.BadSignals) ⊎ (status ≡ statuses.Limit)
-    ⊎ (status ≡ statuses.Refused)
+    ⊎ (status ≡ statuses.WantOfMemory) ⊎ (status ≡ statuses.Refused)
 
--- under a write fault or want of memory it is as it was, or grew by a prefix of a whole output
-abbrev pub PrefixAfterFault : Command → DeskSeen → SinkSeen → Status → Type 0
-PrefixAfterFault command d out status = ((status ≡ statuses.WriteFault) ⊎ (status ≡ statuses.WantOfMemory)) → IsPartial command d out
+-- under a write fault it grew by a prefix of a whole output, which is right for what was read
+abbrev pub PrefixAfterFault : Meaning → DeskSeen → SinkSeen → Status → Type 0
+PrefixAfterFault command d out status = status ≡ statuses.WriteFault → IsPartial command d out
 
 -- ---- the error stream
 -- every status but the first two has a cause, whose line went there as far as the stream took it
-abbrev pub SaysLine : Command → DeskSeen → SinkSeen → SinkSeen → Status → Type 0
+abbrev pub SaysLine : Meaning → DeskSeen → SinkSeen → SinkSeen → Status → Type 0
 SaysLine command d out err status =
     HasEnded status ⊎ ((stop : Stop) × (status ≡ status_of stop) × Cause command d out stop × TookWhatItCould err (line_of stop))

@@ -1,40 +1,33 @@
 -- What a report must tell of a circuit, its signals and the options.
-use Rattle.std.specs.Prelude.{◌≡◌, ℕ, ◌^◌, Bool, true, false, List, [], length, slice_get, count_by, All, Option, Some, None}
-use Rattle.aig_model.specs.Meaning.{Within}
+use Rattle.std.specs.Prelude.{◌≡◌, ℕ, ◌≤◌, ◌^◌, Bool, true, false, List, [], length, slice_get, count_by, All, Option, Some, None}
+use Rattle.aig_model.specs.Meaning.{At, Within}
 use Rattle.aig_model.specs.Replays.{Shows}
 use Rattle.aig_model.specs.declared.parts.Parts.{Parts}
 use Rattle.aig_model.specs.declared.parts.Kind.TheVariants as kinds
-use Rattle.report_text.specs.declared.options.Options.{Options}
-use Rattle.report_text.specs.declared.report.Source.TheVariants as sources
-use Rattle.report_text.specs.declared.report.Entry.{Entry}
-use Rattle.report_text.specs.declared.report.HopBound.{HopBound}
+use Rattle.sim_walk.specs.declared.options.Options.{Options}
+use Rattle.board_core.specs.declared.entry.Source.TheVariants as sources
+use Rattle.board_core.specs.declared.entry.Entry.{Entry}
+use Rattle.report_text.specs.declared.report.HopBound.TheVariants as hop_bounds
+use Rattle.report_text.specs.declared.report.SeedLine.{SeedLine}
+use Rattle.report_text.specs.declared.report.Inv.{Inv}
+use Rattle.report_text.specs.declared.report.Block.{Block}
 use Rattle.report_text.specs.declared.report.GoalBlock.{GoalBlock}
 use Rattle.report_text.specs.declared.report.GoalBlock.TheVariants as blocks
 use Rattle.report_text.specs.declared.report.Report.{Report}
-use Rattle.cover_run.specs.History.{Found, IsLegal, IsInOrder, first_entry, verdict_of}
+use Rattle.board_core.specs.History.{IsLegal, IsInOrder, first_entry, verdict_of}
+use Rattle.cover_run.specs.Found.{Found}
+use Rattle.cover_run.specs.Bounds.{Bounds, bounds_of}
 use Rattle.report_text.specs.Form.{HasForm}
 use Rattle.report_text.specs.Text.{report_text}
 
--- ---- what the options ask for, as far as the printed bounds reach
-pub record Bounds : Type 0 where
-  pub depth : Option ℕ
-  pub hops : List HopBound
-  pub strength : Option ℕ
-
-pub data Asked (c : Parts) (sig : List ℕ) (o : Options) (b : Bounds) (goal : ℕ) : Type 0 where
-  by_zero : Found c sig o sources.Zero goal → Asked c sig o b goal
-  by_sweep : (d : ℕ) → b.depth ≡ Some d → Within c sig d goal → Asked c sig o b goal
-
--- no engine is built that has a bound
-pub record IsUnbounded (b : Bounds) : Type 0 where
-  pub depth : b.depth ≡ None
-  pub hops : b.hops ≡ []
-  pub strength : b.strength ≡ None
-
--- the bounds of a block; a settled one has none
-abbrev pub bounds_of : GoalBlock → Bounds
-bounds_of (blocks.Reached n witness) = record { depth = None; hops = []; strength = None }
-bounds_of (blocks.Open depth hops strength) = record { depth = depth; hops = hops; strength = strength }
+-- ---- what the options ask for, as far as the report's bounds reach
+pub data Asked (c : Parts) (sig : List ℕ) (r : Report) (goal : ℕ) : Type 0 where
+  by_zero : Found c sig r.options sources.Zero goal → Asked c sig r goal
+  by_walk : (b : ℕ) → Found c sig r.options (sources.Walk b) goal → Asked c sig r goal
+  by_sweep : (d : ℕ) → (bounds_of r goal).depth ≡ Some d → Within c sig d goal → Asked c sig r goal
+  by_hop : (b h t : ℕ) (seed : SeedLine) → slice_get r.seeds b ≡ Some (Some seed) → slice_get (bounds_of r goal).hops b ≡ Some (hop_bounds.To h) → t ≤ h
+      → At c sig seed.state t goal → Asked c sig r goal
+  by_proof : (s : ℕ) → (bounds_of r goal).strength ≡ Some s → Found c sig r.options sources.Proved goal → Asked c sig r goal
 
 -- ---- one goal's block
 -- the goal is reached, and its first entry has this number
@@ -44,15 +37,15 @@ pub record IsFirstReached (es : List Entry) (goal number : ℕ) : Type 0 where
   pub first : first_entry es goal ≡ Some entry
   pub number_of : entry.number ≡ number
 
--- no entry stands for the goal, and nothing that was asked settles it
-pub record IsLeftOpen (c : Parts) (sig : List ℕ) (o : Options) (es : List Entry) (goal : ℕ) (b : Bounds) : Type 0 where
-  pub pending : verdict_of es goal ≡ None
-  pub bounds : IsUnbounded b
-  pub not_asked : ¬ Asked c sig o b goal
+-- no entry stands for the goal, the bounds are those of the report, and nothing that was asked settles it
+pub record IsLeftOpen (c : Parts) (sig : List ℕ) (r : Report) (goal : ℕ) (b : Bounds) : Type 0 where
+  pub pending : verdict_of r.history goal ≡ None
+  pub bounds : b ≡ bounds_of r goal
+  pub not_asked : ¬ Asked c sig r goal
 
-abbrev pub IsBlock : Parts → List ℕ → Options → List Entry → ℕ → GoalBlock → Type 0
-IsBlock c sig o es goal (blocks.Reached n witness) = IsFirstReached es goal n × Shows c sig witness goal
-IsBlock c sig o es goal (blocks.Open depth hops strength) = IsLeftOpen c sig o es goal (bounds_of (blocks.Open depth hops strength))
+abbrev pub IsBlock : Parts → List ℕ → Report → ℕ → GoalBlock → Type 0
+IsBlock c sig r goal (blocks.Reached n witness) = IsFirstReached r.history goal n × Shows c sig witness goal
+IsBlock c sig r goal (blocks.Open depth hops strength) = IsLeftOpen c sig r goal (record { depth = depth; hops = hops; strength = strength })
 
 abbrev pub is_reached : GoalBlock → Bool
 is_reached (blocks.Reached n witness) = true
@@ -62,7 +55,24 @@ abbrev pub is_open : GoalBlock → Bool
 is_open (blocks.Reached n witness) = false
 is_open (blocks.Open depth hops strength) = true
 
+-- ---- the sections of what no engine makes yet: each is empty
+abbrev pub AreSeeds : List (Option SeedLine) → Type 0
+AreSeeds seeds = seeds ≡ []
+
+abbrev pub AreInvs : List Inv → Type 0
+AreInvs invs = invs ≡ []
+
+abbrev pub AreSpents : List Block → Type 0
+AreSpents spents = spents ≡ []
+
+abbrev pub AreRefutes : List Block → Type 0
+AreRefutes refutes = refutes ≡ []
+
 -- ---- the whole
+-- each goal that was asked for, as far as the bounds reach, is settled
+abbrev pub SettlesAsked : Parts → List ℕ → Report → Type 0
+SettlesAsked c sig r = (goal : ℕ) (b : GoalBlock) → slice_get r.goals goal ≡ Some b → Asked c sig r goal → is_open b ≡ false
+
 -- what the report tells is true of the circuit, its signals and the options
 pub record Tells (c : Parts) (sig : List ℕ) (o : Options) (r : Report) : Type 0 where
   pub inputs : r.inputs ≡ length c.inputs
@@ -73,7 +83,11 @@ pub record Tells (c : Parts) (sig : List ℕ) (o : Options) (r : Report) : Type 
   pub ordered : IsInOrder r.history
   pub found : All (λ (e : Entry). Found c sig o e.source e.goal) r.history
   pub each_goal : length r.goals ≡ 2 ^ length sig
-  pub goals : (goal : ℕ) (b : GoalBlock) → slice_get r.goals goal ≡ Some b → IsBlock c sig o r.history goal b
+  pub goals : (goal : ℕ) (b : GoalBlock) → slice_get r.goals goal ≡ Some b → IsBlock c sig r goal b
+  pub seeds : AreSeeds r.seeds
+  pub invs : AreInvs r.invs
+  pub spents : AreSpents r.spents
+  pub refutes : AreRefutes r.refutes
   pub reached : r.reached ≡ count_by is_reached r.goals
   pub unreachable : r.unreachable ≡ 0
   pub unsettled : r.unsettled ≡ count_by is_open r.goals

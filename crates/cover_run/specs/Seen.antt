@@ -1,40 +1,40 @@
 -- What is seen of the devices in a call.
-use Rattle.std.specs.Prelude.{◌⊎◌, ℕ, List, Option}
+use Rattle.std.specs.Prelude.{◌⊎◌, ◌≡◌, List, ◌++◌, ℕ}
 use Rattle.run_io.specs.Count.{Rose}
-use Rattle.run_io.specs.Sink.{Grew, GrewByPrefix}
+use Rattle.run_io.specs.Desk.{DeskState, FileGiven, files_started}
+use Rattle.run_io.specs.Sink.{SinkState, Grew, GrewByPrefix}
 
--- the desk: what it tells; before and after, its faults by name, the file that is open, and how much of it was given
-pub record DeskSeen : Type 0 where
-  pub text : List ℕ → Option (List ℕ)
-  pub faults : List ℕ → ℕ
-  pub faults_after : List ℕ → ℕ
-  pub started : Option (List ℕ)
-  pub started_after : Option (List ℕ)
-  pub given : ℕ
-  pub given_after : ℕ
+-- a device's state before and after the call
+pub record Seen (S : Type 0) : Type 0 where
+  pub old : S
+  pub new : S
+
+abbrev pub seen : {S : Type 0} → S → S → Seen S
+seen old new = record { old = old; new = new }
+
+abbrev pub DeskSeen : Type 0
+DeskSeen = Seen DeskState
+
+abbrev pub SinkSeen : Type 0
+SinkSeen = Seen SinkState
 
 -- faults of this file's name were counted
 abbrev pub HasFaulted : DeskSeen → List ℕ → Type 0
-HasFaulted d name = Rose (d.faults name) (d.faults_after name)
+HasFaulted d name = Rose (d.old.faults name) (d.new.faults name)
 
--- a sink: what it took and its counts, before and after
-pub record SinkSeen : Type 0 where
-  pub taken : Option (List ℕ)
-  pub taken_after : Option (List ℕ)
-  pub faults : ℕ
-  pub faults_after : ℕ
-  pub idle : ℕ
-  pub idle_after : ℕ
+-- these files were started, one after the other, and so many bytes of each were given
+abbrev pub Gave : DeskSeen → List FileGiven → Type 0
+Gave d files = files_started d.new ≡ files_started d.old ++ files
 
 -- a fault or an idle write of the sink was counted
 abbrev pub Failed : SinkSeen → Type 0
-Failed s = Rose s.faults s.faults_after ⊎ Rose s.idle s.idle_after
+Failed s = Rose s.old.faults s.new.faults ⊎ Rose s.old.idle s.new.idle
 
 -- the sink took just these bytes
 abbrev pub Took : SinkSeen → List ℕ → Type 0
-Took s bytes = Grew s.taken s.taken_after bytes
+Took s bytes = Grew s.old.taken s.new.taken bytes
 
 -- the sink took a prefix of these bytes, and all of them where no fault and no idle write was counted
 pub record TookWhatItCould (s : SinkSeen) (bytes : List ℕ) : Type 0 where
-  pub prefix : GrewByPrefix s.taken s.taken_after bytes
+  pub prefix : GrewByPrefix s.old.taken s.new.taken bytes
   pub whole : ¬ Failed s → Took s bytes

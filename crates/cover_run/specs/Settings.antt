@@ -1,26 +1,32 @@
 -- The options of `cover`: which there are, and what words give them.
-use Rattle.std.specs.Prelude.{ℕ, Bool, false, if◌then◌else◌, ◌&&◌, ◌^◌, nat_lt, nat_le, List, [], ◌∷◌, codes, decimal, bytes_eq, Option, Some, None, is_some}
+use Rattle.std.specs.Prelude.{ℕ, Bool, true, false, if◌then◌else◌, not, ◌&&◌, nat_le, List, [], ◌∷◌, codes, bytes_eq, Option, Some, None, is_some}
 use Rattle.std.specs.Option.{unwrap_or}
-use Rattle.text_words.specs.Numbers.{natural_of}
-use Rattle.report_text.specs.declared.options.Options.{Options}
+use Rattle.text_words.specs.Numbers.{decimal_number_of}
+use Rattle.sim_walk.specs.declared.options.Options.{Options}
 use Rattle.cover_run.specs.declared.settings.Setting.{Setting}
 use Rattle.cover_run.specs.declared.settings.Setting.TheVariants.{Depth, Batches, Length, Stall, Hop, Seed, Lemmas, Strength, Rounds, Workers}
+use Rattle.cover_run.specs.declared.settings.Switch.{Switch}
+use Rattle.cover_run.specs.declared.settings.Switch.TheVariants.{Proofs}
+use Rattle.cover_run.specs.declared.settings.Named.{Named}
+use Rattle.cover_run.specs.declared.settings.Named.TheVariants.{Numbered, Bare}
 use Rattle.cover_run.specs.declared.settings.Scale.{Scale}
 use Rattle.cover_run.specs.declared.settings.Given.{Given}
 
--- ---- the table: the name, the least and the greatest number, and the number of an option that isn't given
-abbrev pub setting_of : List ℕ → Option Setting
+-- ---- the table: the name of an option that a number follows, or of a switch; the least and the greatest number, and
+-- the number of an option that isn't given; which switches are built
+abbrev pub setting_of : List ℕ → Option Named
 setting_of name =
-    if bytes_eq name (codes "--depth") then Some Depth
-    else if bytes_eq name (codes "--batches") then Some Batches
-    else if bytes_eq name (codes "--length") then Some Length
-    else if bytes_eq name (codes "--stall") then Some Stall
-    else if bytes_eq name (codes "--hop") then Some Hop
-    else if bytes_eq name (codes "--seed") then Some Seed
-    else if bytes_eq name (codes "--lemmas") then Some Lemmas
-    else if bytes_eq name (codes "--strength") then Some Strength
-    else if bytes_eq name (codes "--rounds") then Some Rounds
-    else if bytes_eq name (codes "--workers") then Some Workers
+    if bytes_eq name (codes "--depth") then Some (Numbered Depth)
+    else if bytes_eq name (codes "--batches") then Some (Numbered Batches)
+    else if bytes_eq name (codes "--length") then Some (Numbered Length)
+    else if bytes_eq name (codes "--stall") then Some (Numbered Stall)
+    else if bytes_eq name (codes "--hop") then Some (Numbered Hop)
+    else if bytes_eq name (codes "--seed") then Some (Numbered Seed)
+    else if bytes_eq name (codes "--lemmas") then Some (Numbered Lemmas)
+    else if bytes_eq name (codes "--strength") then Some (Numbered Strength)
+    else if bytes_eq name (codes "--rounds") then Some (Numbered Rounds)
+    else if bytes_eq name (codes "--workers") then Some (Numbered Workers)
+    else if bytes_eq name (codes "--proofs") then Some (Bare Proofs)
     else None
 
 abbrev pub scale_of : Setting → Scale
@@ -35,18 +41,12 @@ scale_of Strength = record { least = 0; greatest = 0; unset = 0 }
 scale_of Rounds = record { least = 0; greatest = 0; unset = 0 }
 scale_of Workers = record { least = 1; greatest = 8; unset = 4 }
 
--- ---- numbers
--- the number below 2^64 whose decimal text, without sign and leading zeros, is the word
-abbrev pub if_written : List ℕ → Option ℕ → Option ℕ
-if_written word None = None
-if_written word (Some n) = if nat_lt n (2 ^ 64) && bytes_eq (decimal n) word then Some n else None
-
-abbrev pub number_of : List ℕ → Option ℕ
-number_of word = if_written word (natural_of word)
+abbrev pub is_built : Switch → Bool
+is_built Proofs = false
 
 -- ---- what the options were given
 abbrev pub nothing : Given
-nothing = record { depth = None; batches = None; length = None; stall = None; hop = None; seed = None; lemmas = None; strength = None; rounds = None; workers = None }
+nothing = record { depth = None; batches = None; length = None; stall = None; hop = None; seed = None; lemmas = None; strength = None; rounds = None; workers = None; proofs = false }
 
 abbrev pub is_given : Given → Setting → Bool
 is_given g Depth = is_some g.depth
@@ -73,18 +73,44 @@ with_given g Rounds n = record g { rounds = Some n }
 with_given g Workers n = record g { workers = Some n }
 
 -- an option that wasn't given yet, with a number of its scale
-abbrev pub given_one : Given → Option Setting → Option ℕ → Option Given
-given_one g None n = None
-given_one g (Some s) None = None
-given_one g (Some s) (Some n) =
+abbrev pub given_number : Given → Setting → Option ℕ → Option Given
+given_number g s None = None
+given_number g s (Some n) =
     if is_given g s then None else if nat_le (scale_of s).least n && nat_le n (scale_of s).greatest then Some (with_given g s n) else None
 
--- the words are options, each a name and a number
-abbrev pub given_by : Option Given → List (List ℕ) → Option Given
-given_by None words = None
-given_by (Some g) [] = Some g
-given_by (Some g) (name ∷ []) = None
-given_by (Some g) (name ∷ value ∷ words) = given_by (given_one g (setting_of name) (number_of value)) words
+abbrev pub is_on : Given → Switch → Bool
+is_on g Proofs = g.proofs
+
+abbrev pub with_switch : Given → Switch → Given
+with_switch g Proofs = record g { proofs = true }
+
+-- a switch that is built and wasn't given yet
+abbrev pub given_switch : Given → Switch → Option Given
+given_switch g s = if is_built s && not (is_on g s) then Some (with_switch g s) else None
+
+-- what the name of an option gives by itself
+abbrev pub given_name : Given → Option Named → Option Given
+given_name g None = None
+given_name g (Some (Numbered s)) = Some g
+given_name g (Some (Bare s)) = given_switch g s
+
+-- the option that waits for its number, once its name was read
+abbrev pub waiting_of : Option Named → Option Setting
+waiting_of None = None
+waiting_of (Some (Numbered s)) = Some s
+waiting_of (Some (Bare s)) = None
+
+-- what the words give beyond what was given before them: each is the number that an option waits for, or the name of an option
+abbrev pub given_after : Option Given → Option Setting → List (List ℕ) → Option Given
+given_after None waiting words = None
+given_after (Some g) None [] = Some g
+given_after (Some g) (Some s) [] = None
+given_after (Some g) None (name ∷ words) = given_after (given_name g (setting_of name)) (waiting_of (setting_of name)) words
+given_after (Some g) (Some s) (value ∷ words) = given_after (given_number g s (decimal_number_of value)) None words
+
+-- what words that are options give
+abbrev pub given_by : List (List ℕ) → Option Given
+given_by words = given_after (Some nothing) None words
 
 -- the options of a run; how many workers there are changes no report
 abbrev pub options_of : Given → Options
@@ -98,5 +124,9 @@ options_of g = record {
   lemmas = unwrap_or g.lemmas (scale_of Lemmas).unset;
   strength = unwrap_or g.strength (scale_of Strength).unset;
   rounds = unwrap_or g.rounds (scale_of Rounds).unset;
-  proofs = false;
+  proofs = g.proofs;
 }
+
+-- how many workers a run may have
+abbrev pub workers_of : Given → ℕ
+workers_of g = unwrap_or g.workers (scale_of Workers).unset

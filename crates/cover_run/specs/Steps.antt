@@ -1,7 +1,8 @@
 -- Causes of the steps of a command.
-use Rattle.std.specs.Prelude.{◌≡◌, ◌≢◌, ◌⊎◌, ℕ, List, Some}
+use Rattle.std.specs.Prelude.{◌≡◌, ◌≢◌, ◌≤◌, ℕ, List, [], ◌∷◌, Some}
 use Rattle.aig_model.specs.declared.parts.Parts.{Parts}
-use Rattle.report_text.specs.declared.options.Options.{Options}
+use Rattle.sim_walk.specs.declared.options.Options.{Options}
+use Rattle.run_io.specs.Desk.{HasSameFaults}
 use Rattle.signal_list.specs.SignalText.{IsFirstFault as IsFirstInSignals}
 use Rattle.cnf_base.specs.Dimacs.{IsFirstFault as IsFirstInFormula}
 use Rattle.cnf_base.specs.Meaning.{CnfFormula}
@@ -10,13 +11,15 @@ use Rattle.lrat_text.specs.Lrat.{IsFirstFault as IsFirstInProof}
 use Rattle.lrat_text.specs.declared.proof.LratStep.{LratStep}
 use Rattle.lrat_check.specs.FirstFault.{first_fault}
 use Rattle.cover_run.specs.declared.stop.File.{File}
+use Rattle.cover_run.specs.declared.stop.File.TheVariants as files
 use Rattle.cover_run.specs.declared.stop.Measure.TheVariants as measures
 use Rattle.cover_run.specs.declared.stop.Refusal.TheVariants as refusals
 use Rattle.cover_run.specs.declared.stop.Stop.{Stop}
 use Rattle.cover_run.specs.declared.stop.Stop.TheVariants as stops
-use Rattle.cover_run.specs.Covering.{HasCircuitFault, IsTooMuch}
-use Rattle.cover_run.specs.Files.{IsRead, IsLeft, IsTooLong}
-use Rattle.cover_run.specs.Seen.{DeskSeen, HasFaulted}
+use Rattle.cover_run.specs.Covering.{HasCircuitFault, HasSomeCircuit, RefusesCircuit, RefusesSignals, IsTooMuch}
+use Rattle.cover_run.specs.Files.{IsTooLong, limit_of}
+use Rattle.cover_run.specs.Seen.{DeskSeen, HasFaulted, Gave}
+use Rattle.cover_run.specs.Words.{Subject}
 
 -- why one file isn't read: its faults rose, or it is too long
 abbrev pub PartCause : DeskSeen → File → List ℕ → Stop → Type 0
@@ -25,9 +28,23 @@ PartCause d file name (stops.TooLong f) = (f ≡ file) × IsTooLong d file name
 PartCause d file name stops.OutOfMemory = Unit {0}
 PartCause d file name stop = ⊥
 
--- no file was started, or this one was and was given within its limit
-abbrev pub IsLeftOrRead : DeskSeen → File → List ℕ → Type 0
-IsLeftOrRead d file name = IsLeft d ⊎ IsRead d file name
+-- one file was started, and given within its limit, and no fault was counted
+pub record IsPartRead (d : DeskSeen) (file : File) (name : List ℕ) : Type 0 where
+  pub given : ℕ
+  pub gave : Gave d ((name, given) ∷ [])
+  pub within : given ≤ limit_of file
+  pub no_fault : HasSameFaults d.old d.new
+
+-- why a circuit and its signals aren't read
+abbrev pub SubjectCause : Subject → DeskSeen → Stop → Type 0
+SubjectCause s d (stops.Unreadable files.Circuit) = HasFaulted d s.circuit
+SubjectCause s d (stops.TooLong files.Circuit) = IsTooLong d files.Circuit s.circuit
+SubjectCause s d (stops.BadCircuit at kind) = RefusesCircuit s d at kind
+SubjectCause s d (stops.Unreadable files.Signals) = HasSomeCircuit s d × HasFaulted d s.signals
+SubjectCause s d (stops.TooLong files.Signals) = HasSomeCircuit s d × IsTooLong d files.Signals s.signals
+SubjectCause s d (stops.BadSignals line kind) = RefusesSignals s d line kind
+SubjectCause s d stops.OutOfMemory = Unit {0}
+SubjectCause s d stop = ⊥
 
 -- why a run isn't begun
 abbrev pub RoomCause : Options → Parts → Stop → Type 0

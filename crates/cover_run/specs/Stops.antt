@@ -35,16 +35,16 @@ status_of stops.OutOfMemory = statuses.WantOfMemory
 abbrev pub settled_status : Bool → Status
 settled_status settled = if settled then statuses.Settled else statuses.Open
 
--- what holds of every stop but that a file is too long
-abbrev pub UnlessTooLong : Stop → Type 0 → Type 0
-UnlessTooLong (stops.TooLong f) P = Unit {0}
-UnlessTooLong stop P = P
-
 -- a stop after which something of the output may stand
 abbrev pub is_late : Stop → Bool
 is_late stops.CannotWrite = true
-is_late stops.OutOfMemory = true
 is_late stop = false
+
+-- a stop while a file is read, as opposed to one that what was read, or what it asks for, is the cause of
+abbrev pub is_of_reading : Stop → Bool
+is_of_reading (stops.Unreadable f) = true
+is_of_reading (stops.TooLong f) = true
+is_of_reading stop = false
 
 -- ---- words of the lines
 abbrev pub file_word : File → List ℕ

@@ -1,8 +1,8 @@
 -- A report around its history and its blocks.
-use Rattle.std.specs.Prelude.{◌≡◌, ℕ, List, length, count_by}
+use Rattle.std.specs.Prelude.{◌≡◌, ℕ, List, [], length, count_by}
 use Rattle.aig_model.specs.declared.parts.Parts.{Parts}
-use Rattle.report_text.specs.declared.options.Options.{Options}
-use Rattle.report_text.specs.declared.report.Entry.{Entry}
+use Rattle.sim_walk.specs.declared.options.Options.{Options}
+use Rattle.board_core.specs.declared.entry.Entry.{Entry}
 use Rattle.report_text.specs.declared.report.GoalBlock.{GoalBlock}
 use Rattle.report_text.specs.declared.report.Report.{Report}
 use Rattle.cover_run.specs.Report.{is_reached, is_open}
@@ -15,6 +15,10 @@ pub record Holds (c : Parts) (sig : List ℕ) (o : Options) (posts : List Entry)
   pub options : r.options ≡ o
   pub history : r.history ≡ posts
   pub goals : r.goals ≡ blocks
+  pub seeds : r.seeds ≡ []
+  pub invs : r.invs ≡ []
+  pub spents : r.spents ≡ []
+  pub refutes : r.refutes ≡ []
   pub reached : r.reached ≡ count_by is_reached blocks
   pub unreachable : r.unreachable ≡ 0
   pub unsettled : r.unsettled ≡ count_by is_open blocks

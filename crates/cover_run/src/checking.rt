@@ -1,16 +1,18 @@
 //! The command `lrat`: it reads a formula and a proof, and judges the proof.
 
-ghost use Rattle.std.specs.Prelude.{◌≡◌, ◌≤◌, ℕ, List, IfOk, IfErr, OnOk, length, codes, true};
+ghost use Rattle.std.specs.Prelude.{◌≡◌, ◌≤◌, IfOk, IfErr, OnOk, length, codes, true, false};
+ghost use Rattle.run_io.specs.Desk.{HasSameTexts};
 ghost use Rattle.cnf_base.specs.Dimacs.{SpellsFormula};
 ghost use Rattle.lrat_text.specs.Lrat.{SpellsProof};
 ghost use Rattle.lrat_text.specs.Accepted.{Accepted};
 ghost use Rattle.cover_run.specs.Answer.{EarlyCause};
 ghost use Rattle.cover_run.specs.Checking.{formula_stop, HasFormula, HasProof, IsLratOutput};
-ghost use Rattle.cover_run.specs.Files.{IsWithin};
-ghost use Rattle.cover_run.specs.Orders.{lrat_call};
+ghost use Rattle.cover_run.specs.Commands.{lrat_call};
+ghost use Rattle.cover_run.specs.Files.{files_of, IsFine, HasRead};
+ghost use Rattle.cover_run.specs.Seen.{seen};
 ghost use Rattle.cover_run.specs.Steps.{FormulaCause, ProofCause, JudgeCause};
-ghost use Rattle.cover_run.specs.Stops.{UnlessTooLong};
-ghost use Rattle.cover_run.specs.Words.{Lrat as LratCommand};
+ghost use Rattle.cover_run.specs.Stops.{is_of_reading};
+ghost use Rattle.cover_run.specs.Words.{Lrat as LratMeaning};
 
 use crate::command::Lrat;
 use crate::output::Output;
@@ -25,7 +27,8 @@ use std::alloc::Global;
 use text_words::lines_at_most_bytes;
 
 fn formula_stop(line: u32, kind: DimacsKind) -> Stop
-    ensures { result ≡ formula_stop line kind }
+    ensures stop { result ≡ formula_stop line kind }
+    ensures read { is_of_reading result ≡ false }
 {
     match kind {
         DimacsKind::Limit => Stop::TooLarge(Measure::Formula),
@@ -38,6 +41,7 @@ fn formula_of(alloc: Global, bytes: &[u8]) -> Result<Formula, Stop>
     requires { length bytes.now ≤ 268435456 }
     ensures formula { IfOk result (SpellsFormula bytes.now) }
     ensures cause { IfErr result (FormulaCause bytes.now) }
+    ensures read { IfErr result (λ stop. is_of_reading stop ≡ false) }
 {
     lines_at_most_bytes(bytes);
     match read_dimacs(alloc, bytes) {
@@ -51,6 +55,7 @@ fn proof_of(alloc: Global, bytes: &[u8]) -> Result<Proof, Stop>
     requires { length bytes.now ≤ 268435456 }
     ensures proof { IfOk result (SpellsProof bytes.now) }
     ensures cause { IfErr result (ProofCause bytes.now) }
+    ensures read { IfErr result (λ stop. is_of_reading stop ≡ false) }
 {
     lines_at_most_bytes(bytes);
     match read_lrat(alloc, bytes) {
@@ -66,17 +71,12 @@ fn read_both<D: Desk>(
     desk: &mut D,
     call: &Lrat<'_>,
 ) -> Result<(Formula, Proof), Stop>
-    ensures text { (n : List ℕ) → D.text desk.new n ≡ D.text desk.old n }
-    ensures formula { IfOk result (λ both. HasFormula (lrat_call call.now)
-        (record { text = D.text desk.old; faults = D.faults desk.old; faults_after = D.faults desk.new; started = D.started desk.old; started_after = D.started desk.new; given = D.given desk.old; given_after = D.given desk.new }) both.0) }
-    ensures proof { IfOk result (λ both. HasProof (lrat_call call.now)
-        (record { text = D.text desk.old; faults = D.faults desk.old; faults_after = D.faults desk.new; started = D.started desk.old; started_after = D.started desk.new; given = D.given desk.old; given_after = D.given desk.new }) both.1) }
-    ensures cause { IfErr result (EarlyCause (LratCommand (lrat_call call.now))
-        (record { text = D.text desk.old; faults = D.faults desk.old; faults_after = D.faults desk.new; started = D.started desk.old; started_after = D.started desk.new; given = D.given desk.old; given_after = D.given desk.new })) }
-    ensures read { OnOk result (IsWithin (LratCommand (lrat_call call.now))
-        (record { text = D.text desk.old; faults = D.faults desk.old; faults_after = D.faults desk.new; started = D.started desk.old; started_after = D.started desk.new; given = D.given desk.old; given_after = D.given desk.new })) }
-    ensures within { IfErr result (λ stop. UnlessTooLong stop (IsWithin (LratCommand (lrat_call call.now))
-        (record { text = D.text desk.old; faults = D.faults desk.old; faults_after = D.faults desk.new; started = D.started desk.old; started_after = D.started desk.new; given = D.given desk.old; given_after = D.given desk.new }))) }
+    ensures text { HasSameTexts (D.state desk.old) (D.state desk.new) }
+    ensures formula { IfOk result (λ both. HasFormula (lrat_call call.now) (seen (D.state desk.old) (D.state desk.new)) both.0) }
+    ensures proof { IfOk result (λ both. HasProof (lrat_call call.now) (seen (D.state desk.old) (D.state desk.new)) both.1) }
+    ensures cause { IfErr result (EarlyCause (LratMeaning (lrat_call call.now)) (seen (D.state desk.old) (D.state desk.new))) }
+    ensures read { OnOk result (IsFine (files_of (LratMeaning (lrat_call call.now))) (seen (D.state desk.old) (D.state desk.new))) }
+    ensures left { IfErr result (HasRead (files_of (LratMeaning (lrat_call call.now))) (seen (D.state desk.old) (D.state desk.new))) }
 {
     let formula = {
         let bytes = read_part(alloc, desk, File::Formula, call.formula)?;
@@ -101,6 +101,7 @@ fn accepted(alloc: Global) -> Result<Output, OutOfMemory>
 fn judge(alloc: Global, formula: &Formula, proof: &Proof) -> Result<(), Stop>
     ensures accepted { OnOk result (Accepted formula.now proof.now) }
     ensures cause { IfErr result (JudgeCause formula.now proof.now) }
+    ensures read { IfErr result (λ stop. is_of_reading stop ≡ false) }
 {
     match check_proof(alloc, formula, proof) {
         Ok(()) => Ok(()),
@@ -111,16 +112,12 @@ fn judge(alloc: Global, formula: &Formula, proof: &Proof) -> Result<(), Stop>
 
 /// What an lrat command writes. Nothing is written yet.
 pub(crate) fn check<D: Desk>(alloc: Global, desk: &mut D, call: &Lrat<'_>) -> Result<Output, Stop>
-    ensures text { (n : List ℕ) → D.text desk.new n ≡ D.text desk.old n }
-    ensures output { IfOk result (λ output. IsLratOutput (lrat_call call.now)
-        (record { text = D.text desk.old; faults = D.faults desk.old; faults_after = D.faults desk.new; started = D.started desk.old; started_after = D.started desk.new; given = D.given desk.old; given_after = D.given desk.new })
-        output.bytes.items output.settled) }
-    ensures cause { IfErr result (EarlyCause (LratCommand (lrat_call call.now))
-        (record { text = D.text desk.old; faults = D.faults desk.old; faults_after = D.faults desk.new; started = D.started desk.old; started_after = D.started desk.new; given = D.given desk.old; given_after = D.given desk.new })) }
-    ensures read { OnOk result (IsWithin (LratCommand (lrat_call call.now))
-        (record { text = D.text desk.old; faults = D.faults desk.old; faults_after = D.faults desk.new; started = D.started desk.old; started_after = D.started desk.new; given = D.given desk.old; given_after = D.given desk.new })) }
-    ensures within { IfErr result (λ stop. UnlessTooLong stop (IsWithin (LratCommand (lrat_call call.now))
-        (record { text = D.text desk.old; faults = D.faults desk.old; faults_after = D.faults desk.new; started = D.started desk.old; started_after = D.started desk.new; given = D.given desk.old; given_after = D.given desk.new }))) }
+    ensures text { HasSameTexts (D.state desk.old) (D.state desk.new) }
+    ensures output { IfOk result (λ output.
+        IsLratOutput (lrat_call call.now) (seen (D.state desk.old) (D.state desk.new)) output.bytes.items output.settled) }
+    ensures cause { IfErr result (EarlyCause (LratMeaning (lrat_call call.now)) (seen (D.state desk.old) (D.state desk.new))) }
+    ensures read { OnOk result (IsFine (files_of (LratMeaning (lrat_call call.now))) (seen (D.state desk.old) (D.state desk.new))) }
+    ensures left { IfErr result (HasRead (files_of (LratMeaning (lrat_call call.now))) (seen (D.state desk.old) (D.state desk.new))) }
 {
     let (formula, proof) = read_both(alloc, desk, call)?;
     judge(alloc, &formula, &proof)?;

@@ -1,19 +1,26 @@
 //! The words on the command line.
 
-ghost use Rattle.std.specs.Prelude.{◌≡◌, Some};
-ghost use Rattle.cover_run.specs.Settings.{given_by, nothing};
+ghost use Rattle.std.specs.Prelude.{◌≡◌};
+ghost use Rattle.cover_run.specs.Settings.{given_by};
 ghost use Rattle.cover_run.specs.Words.{meaning, alone, cover_of, cover_with, lrat_of, texts, is_file_name};
-ghost use Rattle.cover_run.specs.Orders.{command_of};
+ghost use Rattle.cover_run.specs.Commands.{subject_named, meaning_of};
 
-use crate::settings::{given_by, options_of};
-use report_text::Options;
+use crate::settings::{given_by, options_of, workers_of};
+use sim_walk::Options;
 
-/// The files and options of `cover`.
+/// The files that a circuit and its signals are read from.
 #[derive(Clone, Copy, Debug)]
-pub(crate) struct Cover<'a> {
+pub(crate) struct Subject<'a> {
     pub circuit: &'a [u8],
     pub signals: &'a [u8],
+}
+
+/// The files and options of `cover`. One worker does all the work so far, however many may.
+#[derive(Clone, Copy, Debug)]
+pub(crate) struct Cover<'a> {
+    pub subject: Subject<'a>,
     pub options: Options,
+    pub workers: u32,
 }
 
 /// The files of `lrat`.
@@ -25,7 +32,7 @@ pub(crate) struct Lrat<'a> {
 
 /// What the words ask for.
 #[derive(Clone, Copy, Debug)]
-pub(crate) enum Order<'a> {
+pub(crate) enum Command<'a> {
     Usage,
     Help,
     Version,
@@ -42,60 +49,60 @@ fn is_file_name(word: &[u8]) -> bool
     }
 }
 
-fn cover_with<'a>(circuit: &'a [u8], signals: &'a [u8], words: &[Vec<u8>]) -> Order<'a>
-    ensures { command_of result ≡ cover_with circuit.now signals.now (given_by (Some nothing) (texts words.now)) }
+fn cover_with<'a>(subject: Subject<'a>, words: &[Vec<u8>]) -> Command<'a>
+    ensures { meaning_of result ≡ cover_with (subject_named subject.entry) (given_by (texts words.now)) }
 {
     match given_by(words) {
-        None => Order::Usage,
-        Some(given) => Order::Cover(Cover {
-            circuit,
-            signals,
+        None => Command::Usage,
+        Some(given) => Command::Cover(Cover {
+            subject,
             options: options_of(&given),
+            workers: workers_of(&given),
         }),
     }
 }
 
-fn cover_of(words: &[Vec<u8>]) -> Order<'_>
-    ensures { command_of result ≡ cover_of (texts words.now) }
+fn cover_of(words: &[Vec<u8>]) -> Command<'_>
+    ensures { meaning_of result ≡ cover_of (texts words.now) }
 {
     if let [circuit, signals, rest @ ..] = words {
         if is_file_name(circuit) && is_file_name(signals) {
-            return cover_with(circuit, signals, rest);
+            return cover_with(Subject { circuit, signals }, rest);
         }
     }
-    Order::Usage
+    Command::Usage
 }
 
-fn lrat_of(words: &[Vec<u8>]) -> Order<'_>
-    ensures { command_of result ≡ lrat_of (texts words.now) }
+fn lrat_of(words: &[Vec<u8>]) -> Command<'_>
+    ensures { meaning_of result ≡ lrat_of (texts words.now) }
 {
     if let [formula, proof] = words {
         if is_file_name(formula) && is_file_name(proof) {
-            return Order::Lrat(Lrat {
+            return Command::Lrat(Lrat {
                 formula: formula.as_slice(),
                 proof: proof.as_slice(),
             });
         }
     }
-    Order::Usage
+    Command::Usage
 }
 
-fn alone(command: &[u8], words: &[Vec<u8>]) -> Order<'static>
-    ensures { command_of result ≡ alone command.now (texts words.now) }
+fn alone(command: &[u8], words: &[Vec<u8>]) -> Command<'static>
+    ensures { meaning_of result ≡ alone command.now (texts words.now) }
 {
     match words {
-        [] if command == b"--help".as_slice() => Order::Help,
-        [] if command == b"--version".as_slice() => Order::Version,
-        [] => Order::Usage,
-        [_, ..] => Order::Usage,
+        [] if command == b"--help".as_slice() => Command::Help,
+        [] if command == b"--version".as_slice() => Command::Version,
+        [] => Command::Usage,
+        [_, ..] => Command::Usage,
     }
 }
 
-pub(crate) fn order_of(words: &[Vec<u8>]) -> Order<'_>
-    ensures { command_of result ≡ meaning (texts words.now) }
+pub(crate) fn command_of(words: &[Vec<u8>]) -> Command<'_>
+    ensures { meaning_of result ≡ meaning (texts words.now) }
 {
     let [command, rest @ ..] = words else {
-        return Order::Usage;
+        return Command::Usage;
     };
     if command.as_slice() == b"cover".as_slice() {
         cover_of(rest)

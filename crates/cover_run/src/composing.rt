@@ -1,7 +1,7 @@
 //! Makes the report from what the zero walk visits.
 
 ghost use Rattle.std.specs.Prelude.{◌≡◌, ◌^◌, length, replicate, count_by, IfOk};
-ghost use Rattle.cover_run.specs.Walk.{AreZeroVisits};
+ghost use Rattle.sim_walk.specs.Zero.{AreZeroVisits};
 ghost use Rattle.cover_run.specs.Posts.{posts_of};
 ghost use Rattle.cover_run.specs.Blocks.{open_block, AreBlocksFrom};
 ghost use Rattle.cover_run.specs.Report.{Tells, is_reached};
@@ -10,10 +10,11 @@ ghost use Rattle.cover_run.specs.Summed.{Holds};
 ghost use Rattle.aig_model.specs.SignalList.{IsSignals};
 ghost use Rattle.aig_model.specs.WellFormed.{IsCircuit};
 
-use crate::walk::{Visits, zero_trace};
 use aig_model::{Circuit, Kind, Signals};
+use board_core::{Entries, Entry, Source};
 use ketch_base::OutOfMemory;
-use report_text::{Entries, Entry, GoalBlock, GoalBlocks, HopBounds, Options, Report, Source};
+use report_text::{Blocks, GoalBlock, GoalBlocks, HopBounds, Invs, Report, SeedLines};
+use sim_walk::{Options, Visits, zero_trace};
 use std::alloc::Global;
 
 /// The posts of the one caller, who has seen all entries before each.
@@ -93,6 +94,7 @@ fn reached_among(blocks: &GoalBlocks) -> usize
 
 /// The report of a history and the blocks that it leaves.
 fn report_of(
+    alloc: Global,
     circuit: &Circuit,
     signals: &Signals,
     options: Options,
@@ -118,7 +120,11 @@ fn report_of(
         signals: lits.len() as u32,
         options,
         history,
+        seeds: SeedLines::new(alloc),
+        invs: Invs::new(alloc),
         goals,
+        spents: Blocks::new(alloc),
+        refutes: Blocks::new(alloc),
         reached,
         unreachable: 0,
         unsettled: signals.goals() - reached,
@@ -141,8 +147,5 @@ pub fn compose(
 {
     let history = posts_of(alloc, visits)?;
     let goals = blocks_of(alloc, circuit, signals, options, visits)?;
-    Ok(report_of(circuit, signals, *options, history, goals))
+    Ok(report_of(alloc, circuit, signals, *options, history, goals))
 }
-
-#[cfg(test)]
-mod tests;

@@ -1,9 +1,10 @@
 //! One file of a command.
 
-ghost use Rattle.std.specs.Prelude.{◌≡◌, ◌≤◌, ℕ, List, IfOk, IfErr, IfSome, OnOk, length};
-ghost use Rattle.cover_run.specs.Files.{IsRead, limit_of};
-ghost use Rattle.cover_run.specs.Steps.{PartCause, IsLeftOrRead};
-ghost use Rattle.cover_run.specs.Stops.{UnlessTooLong};
+ghost use Rattle.std.specs.Prelude.{◌≡◌, ◌≤◌, [], ◌∷◌, IfOk, IfErr, IfSome, OnOk, length};
+ghost use Rattle.run_io.specs.Desk.{HasSameTexts, CountsFaults};
+ghost use Rattle.cover_run.specs.Files.{IsFine, HasRead, limit_of};
+ghost use Rattle.cover_run.specs.Seen.{seen};
+ghost use Rattle.cover_run.specs.Steps.{PartCause, IsPartRead};
 
 use crate::stop::{File, Stop, limit_of};
 use run_io::{Desk, ReadFault, read_file};
@@ -16,16 +17,13 @@ pub(crate) fn read_part<D: Desk>(
     file: File,
     name: &[u8],
 ) -> Result<Vec<u8>, Stop>
-    ensures text { (n : List ℕ) → D.text desk.new n ≡ D.text desk.old n }
-    ensures counts { (n : List ℕ) → D.faults desk.old n ≤ D.faults desk.new n }
-    ensures whole { IfOk result (λ bytes. IfSome (D.text desk.old name.now) (λ text. bytes.items ≡ text)) }
+    ensures text { HasSameTexts (D.state desk.old) (D.state desk.new) }
+    ensures counts { CountsFaults (D.state desk.old) (D.state desk.new) }
+    ensures whole { IfOk result (λ bytes. IfSome ((D.state desk.old).text name.now) (λ text. bytes.items ≡ text)) }
     ensures short { IfOk result (λ bytes. length bytes.items ≤ limit_of file) }
-    ensures read { OnOk result (IsRead
-        (record { text = D.text desk.old; faults = D.faults desk.old; faults_after = D.faults desk.new; started = D.started desk.old; started_after = D.started desk.new; given = D.given desk.old; given_after = D.given desk.new }) file name.now) }
-    ensures cause { IfErr result (PartCause
-        (record { text = D.text desk.old; faults = D.faults desk.old; faults_after = D.faults desk.new; started = D.started desk.old; started_after = D.started desk.new; given = D.given desk.old; given_after = D.given desk.new }) file name.now) }
-    ensures within { IfErr result (λ stop. UnlessTooLong stop (IsLeftOrRead
-        (record { text = D.text desk.old; faults = D.faults desk.old; faults_after = D.faults desk.new; started = D.started desk.old; started_after = D.started desk.new; given = D.given desk.old; given_after = D.given desk.new }) file name.now)) }
+    ensures read { OnOk result (IsPartRead (seen (D.state desk.old) (D.state desk.new)) file name.now) }
+    ensures cause { IfErr result (PartCause (seen (D.state desk.old) (D.state desk.new)) file name.now) }
+    ensures left { IfErr result (HasRead ((file, name.now) ∷ []) (seen (D.state desk.old) (D.state desk.new))) }
 {
     match read_file(alloc, desk, name, limit_of(file)) {
         Ok(bytes) => Ok(bytes),

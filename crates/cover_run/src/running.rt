@@ -1,17 +1,18 @@
 //! The top call.
 
-ghost use Rattle.std.specs.Prelude.{◌≡◌, ◌↔◌, ℕ, List, IfOk, IfErr, OnOk, true, false};
+ghost use Rattle.std.specs.Prelude.{◌≡◌, ◌↔◌, IfOk, IfErr, OnOk, true, false};
+ghost use Rattle.run_io.specs.Desk.{HasSameTexts};
 ghost use Rattle.cover_run.specs.Answer.{EarlyCause, IsOutput, IsAnswer, IsStopped, IsWhole};
-ghost use Rattle.cover_run.specs.Files.{IsWithin};
-ghost use Rattle.cover_run.specs.Orders.{command_of};
-ghost use Rattle.cover_run.specs.Promises.{Headline, Completeness, AcceptedCause, AcceptedComes, PrintedCause, PrintedComes, HasEnded, IsEarly, ReadFaultCause, BadCircuitCause, BadCircuitComes, BadSignalsCause, BadSignalsComes, LimitCause, WithinLimits, TooMuchComes, LongCircuitComes, LongSignalsComes, LongFormulaComes, LongProofComes, RefusedCause, BadFormulaComes, BadProofComes, BadStepComes, PrefixAfterFault, SaysLine};
-ghost use Rattle.cover_run.specs.Seen.{Failed, TookWhatItCould};
-ghost use Rattle.cover_run.specs.Stops.{UnlessTooLong, is_late};
+ghost use Rattle.cover_run.specs.Commands.{meaning_of};
+ghost use Rattle.cover_run.specs.Files.{files_of, IsFine, HasRead};
+ghost use Rattle.cover_run.specs.Promises.{WrittenCause, Headline, Completeness, AcceptedCause, AcceptedComes, PrintedCause, PrintedComes, HasEnded, IsEarly, ReadFaultCause, NoFault, BadCircuitCause, BadCircuitComes, BadSignalsCause, BadSignalsComes, LimitCause, WithinLimits, TooMuchComes, LongCircuitComes, LongSignalsComes, LongFormulaComes, LongProofComes, RefusedCause, BadFormulaComes, BadProofComes, BadStepComes, PrefixAfterFault, SaysLine};
+ghost use Rattle.cover_run.specs.Seen.{seen, Failed, TookWhatItCould};
+ghost use Rattle.cover_run.specs.Stops.{is_late};
 ghost use Rattle.cover_run.specs.Words.{meaning, texts, Usage};
 
 use crate::about::{help_text, version_text};
 use crate::checking::check;
-use crate::command::{Order, order_of};
+use crate::command::{Command, command_of};
 use crate::covering::cover;
 use crate::gate::Gate;
 use crate::line::line_of;
@@ -37,47 +38,38 @@ fn printed(alloc: Global, text: &str) -> Result<Output, Stop>
     }
 }
 
-/// What the words ask to write. Nothing is written yet.
-fn output_of<D: Desk>(alloc: Global, order: &Order<'_>, desk: &mut D) -> Result<Output, Stop>
-    ensures text { (n : List ℕ) → D.text desk.new n ≡ D.text desk.old n }
-    ensures output { IfOk result (λ output. IsOutput (command_of order.now)
-        (record { text = D.text desk.old; faults = D.faults desk.old; faults_after = D.faults desk.new; started = D.started desk.old; started_after = D.started desk.new; given = D.given desk.old; given_after = D.given desk.new })
-        output.bytes.items output.settled) }
-    ensures cause { IfErr result (EarlyCause (command_of order.now)
-        (record { text = D.text desk.old; faults = D.faults desk.old; faults_after = D.faults desk.new; started = D.started desk.old; started_after = D.started desk.new; given = D.given desk.old; given_after = D.given desk.new })) }
-    ensures read { OnOk result (IsWithin (command_of order.now)
-        (record { text = D.text desk.old; faults = D.faults desk.old; faults_after = D.faults desk.new; started = D.started desk.old; started_after = D.started desk.new; given = D.given desk.old; given_after = D.given desk.new })) }
-    ensures within { IfErr result (λ stop. UnlessTooLong stop (IsWithin (command_of order.now)
-        (record { text = D.text desk.old; faults = D.faults desk.old; faults_after = D.faults desk.new; started = D.started desk.old; started_after = D.started desk.new; given = D.given desk.old; given_after = D.given desk.new }))) }
-    ensures not_called { command_of order.now ≡ Usage → desk.new ≡ desk.old }
+/// What a command asks to write. Nothing is written yet.
+fn output_of<D: Desk>(alloc: Global, command: &Command<'_>, desk: &mut D) -> Result<Output, Stop>
+    ensures text { HasSameTexts (D.state desk.old) (D.state desk.new) }
+    ensures output { IfOk result (λ output. IsOutput (meaning_of command.now) (seen (D.state desk.old) (D.state desk.new)) output.bytes.items output.settled) }
+    ensures cause { IfErr result (EarlyCause (meaning_of command.now) (seen (D.state desk.old) (D.state desk.new))) }
+    ensures read { OnOk result (IsFine (files_of (meaning_of command.now)) (seen (D.state desk.old) (D.state desk.new))) }
+    ensures left { IfErr result (HasRead (files_of (meaning_of command.now)) (seen (D.state desk.old) (D.state desk.new))) }
+    ensures not_called { meaning_of command.now ≡ Usage → desk.new ≡ desk.old }
 {
-    match order {
-        Order::Usage => Err(Stop::Usage),
-        Order::Help => printed(alloc, help_text()),
-        Order::Version => printed(alloc, version_text()),
-        Order::Cover(call) => cover(alloc, desk, call),
-        Order::Lrat(call) => check(alloc, desk, call),
+    match command {
+        Command::Usage => Err(Stop::Usage),
+        Command::Help => printed(alloc, help_text()),
+        Command::Version => printed(alloc, version_text()),
+        Command::Cover(call) => cover(alloc, desk, call),
+        Command::Lrat(call) => check(alloc, desk, call),
     }
 }
 
-/// Does what the words ask for: whether nothing is left open, or what stopped it.
-fn obey<D: Desk, O: Sink>(
+/// Does what a command asks for: whether nothing is left open, or what stopped it.
+fn execute<D: Desk, O: Sink>(
     alloc: Global,
-    order: &Order<'_>,
+    command: &Command<'_>,
     desk: &mut D,
     out: &mut O,
 ) -> Result<bool, Stop>
-    ensures text { (n : List ℕ) → D.text desk.new n ≡ D.text desk.old n }
-    ensures whole { IfOk result (IsWhole (command_of order.now)
-        (record { text = D.text desk.old; faults = D.faults desk.old; faults_after = D.faults desk.new; started = D.started desk.old; started_after = D.started desk.new; given = D.given desk.old; given_after = D.given desk.new })
-        (record { taken = O.taken out.old; taken_after = O.taken out.new; faults = O.faults out.old; faults_after = O.faults out.new; idle = O.idle out.old; idle_after = O.idle out.new })) }
-    ensures stopped { IfErr result (IsStopped (command_of order.now)
-        (record { text = D.text desk.old; faults = D.faults desk.old; faults_after = D.faults desk.new; started = D.started desk.old; started_after = D.started desk.new; given = D.given desk.old; given_after = D.given desk.new })
-        (record { taken = O.taken out.old; taken_after = O.taken out.new; faults = O.faults out.old; faults_after = O.faults out.new; idle = O.idle out.old; idle_after = O.idle out.new })) }
+    ensures text { HasSameTexts (D.state desk.old) (D.state desk.new) }
+    ensures whole { IfOk result (IsWhole (meaning_of command.now) (seen (D.state desk.old) (D.state desk.new)) (seen (O.state out.old) (O.state out.new))) }
+    ensures stopped { IfErr result (IsStopped (meaning_of command.now) (seen (D.state desk.old) (D.state desk.new)) (seen (O.state out.old) (O.state out.new))) }
     ensures early { IfErr result (λ stop. is_late stop ≡ false → out.new ≡ out.old) }
-    ensures not_called { command_of order.now ≡ Usage → desk.new ≡ desk.old }
+    ensures not_called { meaning_of command.now ≡ Usage → desk.new ≡ desk.old }
 {
-    let output = output_of(alloc, order, desk)?;
+    let output = output_of(alloc, command, desk)?;
     match write_all(out, &output.bytes) {
         Ok(()) => Ok(output.settled),
         Err(_) => Err(Stop::CannotWrite),
@@ -86,8 +78,7 @@ fn obey<D: Desk, O: Sink>(
 
 /// Writes a line to the error stream. What the stream doesn't take is dropped.
 fn say<E: Sink>(err: &mut E, line: &[u8])
-    ensures { TookWhatItCould
-        (record { taken = E.taken err.old; taken_after = E.taken err.new; faults = E.faults err.old; faults_after = E.faults err.new; idle = E.idle err.old; idle_after = E.idle err.new }) line.now }
+    ensures { TookWhatItCould (seen (E.state err.old) (E.state err.new)) line.now }
 {
     match write_all(err, line) {
         Ok(()) => (),
@@ -103,17 +94,14 @@ fn answer<D: Desk, O: Sink, E: Sink>(
     out: &mut O,
     err: &mut E,
 ) -> Status
-    ensures text { (n : List ℕ) → D.text desk.new n ≡ D.text desk.old n }
-    ensures answer { IsAnswer (meaning (texts words.now))
-        (record { text = D.text desk.old; faults = D.faults desk.old; faults_after = D.faults desk.new; started = D.started desk.old; started_after = D.started desk.new; given = D.given desk.old; given_after = D.given desk.new })
-        (record { taken = O.taken out.old; taken_after = O.taken out.new; faults = O.faults out.old; faults_after = O.faults out.new; idle = O.idle out.old; idle_after = O.idle out.new })
-        (record { taken = E.taken err.old; taken_after = E.taken err.new; faults = E.faults err.old; faults_after = E.faults err.new; idle = E.idle err.old; idle_after = E.idle err.new }) result }
+    ensures text { HasSameTexts (D.state desk.old) (D.state desk.new) }
+    ensures answer { IsAnswer (meaning (texts words.now)) (seen (D.state desk.old) (D.state desk.new)) (seen (O.state out.old) (O.state out.new)) (seen (E.state err.old) (E.state err.new)) result }
     ensures not_called { meaning (texts words.now) ≡ Usage → desk.new ≡ desk.old }
     ensures early { IsEarly result → out.new ≡ out.old }
     ensures quiet { HasEnded result → err.new ≡ err.old }
 {
-    let order = order_of(words);
-    match obey(alloc, &order, desk, out) {
+    let command = command_of(words);
+    match execute(alloc, &command, desk, out) {
         Ok(settled) => settled_status(settled),
         Err(stop) => {
             let line = line_of(stop);
@@ -135,85 +123,49 @@ pub fn run<R: Threads + Sync, D: Desk, O: Sink, E: Sink, G: Gate>(
     err: &mut E,
     _gate: &G,
 ) -> Status
-    ensures headline { Headline (meaning (texts words.now))
-        (record { text = D.text desk.old; faults = D.faults desk.old; faults_after = D.faults desk.new; started = D.started desk.old; started_after = D.started desk.new; given = D.given desk.old; given_after = D.given desk.new })
-        (record { taken = O.taken out.old; taken_after = O.taken out.new; faults = O.faults out.old; faults_after = O.faults out.new; idle = O.idle out.old; idle_after = O.idle out.new }) result }
-    ensures completeness { Completeness (meaning (texts words.now))
-        (record { text = D.text desk.old; faults = D.faults desk.old; faults_after = D.faults desk.new; started = D.started desk.old; started_after = D.started desk.new; given = D.given desk.old; given_after = D.given desk.new })
-        (record { taken = O.taken out.old; taken_after = O.taken out.new; faults = O.faults out.old; faults_after = O.faults out.new; idle = O.idle out.old; idle_after = O.idle out.new }) result }
-    ensures accepted { AcceptedCause (meaning (texts words.now))
-        (record { text = D.text desk.old; faults = D.faults desk.old; faults_after = D.faults desk.new; started = D.started desk.old; started_after = D.started desk.new; given = D.given desk.old; given_after = D.given desk.new })
-        (record { taken = O.taken out.old; taken_after = O.taken out.new; faults = O.faults out.old; faults_after = O.faults out.new; idle = O.idle out.old; idle_after = O.idle out.new }) result }
-    ensures accepted_comes { AcceptedComes (meaning (texts words.now))
-        (record { text = D.text desk.old; faults = D.faults desk.old; faults_after = D.faults desk.new; started = D.started desk.old; started_after = D.started desk.new; given = D.given desk.old; given_after = D.given desk.new })
-        (record { taken = O.taken out.old; taken_after = O.taken out.new; faults = O.faults out.old; faults_after = O.faults out.new; idle = O.idle out.old; idle_after = O.idle out.new }) result }
-    ensures printed { PrintedCause (meaning (texts words.now))
-        (record { taken = O.taken out.old; taken_after = O.taken out.new; faults = O.faults out.old; faults_after = O.faults out.new; idle = O.idle out.old; idle_after = O.idle out.new }) result }
-    ensures printed_comes { PrintedComes (meaning (texts words.now))
-        (record { taken = O.taken out.old; taken_after = O.taken out.new; faults = O.faults out.old; faults_after = O.faults out.new; idle = O.idle out.old; idle_after = O.idle out.new }) result }
+    // What statuses 0 and 1 say, on any desk, and where texts are told.
+    ensures written { WrittenCause (meaning (texts words.now)) (seen (D.state desk.old) (D.state desk.new)) (seen (O.state out.old) (O.state out.new)) result }
+    ensures headline { Headline (meaning (texts words.now)) (seen (D.state desk.old) (D.state desk.new)) (seen (O.state out.old) (O.state out.new)) result }
+    ensures accepted { AcceptedCause (meaning (texts words.now)) (seen (D.state desk.old) (D.state desk.new)) (seen (O.state out.old) (O.state out.new)) result }
+    ensures printed { PrintedCause (meaning (texts words.now)) (seen (O.state out.old) (O.state out.new)) result }
 
+    // They come where nothing stands against it.
+    ensures completeness { Completeness (meaning (texts words.now)) (seen (D.state desk.old) (D.state desk.new)) (seen (O.state out.old) (O.state out.new)) result }
+    ensures accepted_comes { AcceptedComes (meaning (texts words.now)) (seen (D.state desk.old) (D.state desk.new)) (seen (O.state out.old) (O.state out.new)) result }
+    ensures printed_comes { PrintedComes (meaning (texts words.now)) (seen (O.state out.old) (O.state out.new)) result }
+
+    // The cause of each other status.
     ensures usage { (result ≡ Status.Usage) ↔ (meaning (texts words.now) ≡ Usage) }
     ensures not_called { result ≡ Status.Usage → desk.new ≡ desk.old }
-    ensures read_fault { ReadFaultCause (meaning (texts words.now))
-        (record { text = D.text desk.old; faults = D.faults desk.old; faults_after = D.faults desk.new; started = D.started desk.old; started_after = D.started desk.new; given = D.given desk.old; given_after = D.given desk.new })
-        (record { taken = E.taken err.old; taken_after = E.taken err.new; faults = E.faults err.old; faults_after = E.faults err.new; idle = E.idle err.old; idle_after = E.idle err.new }) result }
-    ensures bad_circuit { BadCircuitCause (meaning (texts words.now))
-        (record { text = D.text desk.old; faults = D.faults desk.old; faults_after = D.faults desk.new; started = D.started desk.old; started_after = D.started desk.new; given = D.given desk.old; given_after = D.given desk.new })
-        (record { taken = E.taken err.old; taken_after = E.taken err.new; faults = E.faults err.old; faults_after = E.faults err.new; idle = E.idle err.old; idle_after = E.idle err.new }) result }
-    ensures bad_circuit_comes { BadCircuitComes (meaning (texts words.now))
-        (record { text = D.text desk.old; faults = D.faults desk.old; faults_after = D.faults desk.new; started = D.started desk.old; started_after = D.started desk.new; given = D.given desk.old; given_after = D.given desk.new })
-        (record { taken = E.taken err.old; taken_after = E.taken err.new; faults = E.faults err.old; faults_after = E.faults err.new; idle = E.idle err.old; idle_after = E.idle err.new }) result }
-    ensures bad_signals { BadSignalsCause (meaning (texts words.now))
-        (record { text = D.text desk.old; faults = D.faults desk.old; faults_after = D.faults desk.new; started = D.started desk.old; started_after = D.started desk.new; given = D.given desk.old; given_after = D.given desk.new })
-        (record { taken = E.taken err.old; taken_after = E.taken err.new; faults = E.faults err.old; faults_after = E.faults err.new; idle = E.idle err.old; idle_after = E.idle err.new }) result }
-    ensures bad_signals_comes { BadSignalsComes (meaning (texts words.now))
-        (record { text = D.text desk.old; faults = D.faults desk.old; faults_after = D.faults desk.new; started = D.started desk.old; started_after = D.started desk.new; given = D.given desk.old; given_after = D.given desk.new })
-        (record { taken = E.taken err.old; taken_after = E.taken err.new; faults = E.faults err.old; faults_after = E.faults err.new; idle = E.idle err.old; idle_after = E.idle err.new }) result }
-    ensures limit { LimitCause (meaning (texts words.now))
-        (record { text = D.text desk.old; faults = D.faults desk.old; faults_after = D.faults desk.new; started = D.started desk.old; started_after = D.started desk.new; given = D.given desk.old; given_after = D.given desk.new })
-        (record { taken = E.taken err.old; taken_after = E.taken err.new; faults = E.faults err.old; faults_after = E.faults err.new; idle = E.idle err.old; idle_after = E.idle err.new }) result }
-    ensures within_limits { WithinLimits (meaning (texts words.now))
-        (record { text = D.text desk.old; faults = D.faults desk.old; faults_after = D.faults desk.new; started = D.started desk.old; started_after = D.started desk.new; given = D.given desk.old; given_after = D.given desk.new }) result }
-    ensures too_much_comes { TooMuchComes (meaning (texts words.now))
-        (record { text = D.text desk.old; faults = D.faults desk.old; faults_after = D.faults desk.new; started = D.started desk.old; started_after = D.started desk.new; given = D.given desk.old; given_after = D.given desk.new })
-        (record { taken = E.taken err.old; taken_after = E.taken err.new; faults = E.faults err.old; faults_after = E.faults err.new; idle = E.idle err.old; idle_after = E.idle err.new }) result }
-    ensures long_circuit_comes { LongCircuitComes (meaning (texts words.now))
-        (record { text = D.text desk.old; faults = D.faults desk.old; faults_after = D.faults desk.new; started = D.started desk.old; started_after = D.started desk.new; given = D.given desk.old; given_after = D.given desk.new })
-        (record { taken = E.taken err.old; taken_after = E.taken err.new; faults = E.faults err.old; faults_after = E.faults err.new; idle = E.idle err.old; idle_after = E.idle err.new }) result }
-    ensures long_signals_comes { LongSignalsComes (meaning (texts words.now))
-        (record { text = D.text desk.old; faults = D.faults desk.old; faults_after = D.faults desk.new; started = D.started desk.old; started_after = D.started desk.new; given = D.given desk.old; given_after = D.given desk.new })
-        (record { taken = E.taken err.old; taken_after = E.taken err.new; faults = E.faults err.old; faults_after = E.faults err.new; idle = E.idle err.old; idle_after = E.idle err.new }) result }
-    ensures long_formula_comes { LongFormulaComes (meaning (texts words.now))
-        (record { text = D.text desk.old; faults = D.faults desk.old; faults_after = D.faults desk.new; started = D.started desk.old; started_after = D.started desk.new; given = D.given desk.old; given_after = D.given desk.new })
-        (record { taken = E.taken err.old; taken_after = E.taken err.new; faults = E.faults err.old; faults_after = E.faults err.new; idle = E.idle err.old; idle_after = E.idle err.new }) result }
-    ensures long_proof_comes { LongProofComes (meaning (texts words.now))
-        (record { text = D.text desk.old; faults = D.faults desk.old; faults_after = D.faults desk.new; started = D.started desk.old; started_after = D.started desk.new; given = D.given desk.old; given_after = D.given desk.new })
-        (record { taken = E.taken err.old; taken_after = E.taken err.new; faults = E.faults err.old; faults_after = E.faults err.new; idle = E.idle err.old; idle_after = E.idle err.new }) result }
-    ensures write_fault { result ≡ Status.WriteFault → Failed
-        (record { taken = O.taken out.old; taken_after = O.taken out.new; faults = O.faults out.old; faults_after = O.faults out.new; idle = O.idle out.old; idle_after = O.idle out.new }) }
-    ensures refused { RefusedCause (meaning (texts words.now))
-        (record { text = D.text desk.old; faults = D.faults desk.old; faults_after = D.faults desk.new; started = D.started desk.old; started_after = D.started desk.new; given = D.given desk.old; given_after = D.given desk.new })
-        (record { taken = E.taken err.old; taken_after = E.taken err.new; faults = E.faults err.old; faults_after = E.faults err.new; idle = E.idle err.old; idle_after = E.idle err.new }) result }
-    ensures bad_formula_comes { BadFormulaComes (meaning (texts words.now))
-        (record { text = D.text desk.old; faults = D.faults desk.old; faults_after = D.faults desk.new; started = D.started desk.old; started_after = D.started desk.new; given = D.given desk.old; given_after = D.given desk.new })
-        (record { taken = E.taken err.old; taken_after = E.taken err.new; faults = E.faults err.old; faults_after = E.faults err.new; idle = E.idle err.old; idle_after = E.idle err.new }) result }
-    ensures bad_proof_comes { BadProofComes (meaning (texts words.now))
-        (record { text = D.text desk.old; faults = D.faults desk.old; faults_after = D.faults desk.new; started = D.started desk.old; started_after = D.started desk.new; given = D.given desk.old; given_after = D.given desk.new })
-        (record { taken = E.taken err.old; taken_after = E.taken err.new; faults = E.faults err.old; faults_after = E.faults err.new; idle = E.idle err.old; idle_after = E.idle err.new }) result }
-    ensures bad_step_comes { BadStepComes (meaning (texts words.now))
-        (record { text = D.text desk.old; faults = D.faults desk.old; faults_after = D.faults desk.new; started = D.started desk.old; started_after = D.started desk.new; given = D.given desk.old; given_after = D.given desk.new })
-        (record { taken = E.taken err.old; taken_after = E.taken err.new; faults = E.faults err.old; faults_after = E.faults err.new; idle = E.idle err.old; idle_after = E.idle err.new }) result }
+    ensures read_fault { ReadFaultCause (meaning (texts words.now)) (seen (D.state desk.old) (D.state desk.new)) (seen (E.state err.old) (E.state err.new)) result }
+    ensures no_fault { NoFault (seen (D.state desk.old) (D.state desk.new)) result }
+    ensures limit { LimitCause (meaning (texts words.now)) (seen (D.state desk.old) (D.state desk.new)) (seen (E.state err.old) (E.state err.new)) result }
+    ensures within_limits { WithinLimits (meaning (texts words.now)) (seen (D.state desk.old) (D.state desk.new)) result }
+    ensures write_fault { result ≡ Status.WriteFault → Failed (seen (O.state out.old) (O.state out.new)) }
 
+    // Of commands that read a circuit and signals.
+    ensures bad_circuit { BadCircuitCause (meaning (texts words.now)) (seen (D.state desk.old) (D.state desk.new)) (seen (E.state err.old) (E.state err.new)) result }
+    ensures bad_circuit_comes { BadCircuitComes (meaning (texts words.now)) (seen (D.state desk.old) (D.state desk.new)) (seen (E.state err.old) (E.state err.new)) result }
+    ensures long_circuit_comes { LongCircuitComes (meaning (texts words.now)) (seen (D.state desk.old) (D.state desk.new)) (seen (E.state err.old) (E.state err.new)) result }
+    ensures bad_signals { BadSignalsCause (meaning (texts words.now)) (seen (D.state desk.old) (D.state desk.new)) (seen (E.state err.old) (E.state err.new)) result }
+    ensures bad_signals_comes { BadSignalsComes (meaning (texts words.now)) (seen (D.state desk.old) (D.state desk.new)) (seen (E.state err.old) (E.state err.new)) result }
+    ensures long_signals_comes { LongSignalsComes (meaning (texts words.now)) (seen (D.state desk.old) (D.state desk.new)) (seen (E.state err.old) (E.state err.new)) result }
+    ensures too_much_comes { TooMuchComes (meaning (texts words.now)) (seen (D.state desk.old) (D.state desk.new)) (seen (E.state err.old) (E.state err.new)) result }
+
+    // Of commands that refuse a proof.
+    ensures refused { RefusedCause (meaning (texts words.now)) (seen (D.state desk.old) (D.state desk.new)) (seen (E.state err.old) (E.state err.new)) result }
+    ensures bad_formula_comes { BadFormulaComes (meaning (texts words.now)) (seen (D.state desk.old) (D.state desk.new)) (seen (E.state err.old) (E.state err.new)) result }
+    ensures long_formula_comes { LongFormulaComes (meaning (texts words.now)) (seen (D.state desk.old) (D.state desk.new)) (seen (E.state err.old) (E.state err.new)) result }
+    ensures bad_proof_comes { BadProofComes (meaning (texts words.now)) (seen (D.state desk.old) (D.state desk.new)) (seen (E.state err.old) (E.state err.new)) result }
+    ensures long_proof_comes { LongProofComes (meaning (texts words.now)) (seen (D.state desk.old) (D.state desk.new)) (seen (E.state err.old) (E.state err.new)) result }
+    ensures bad_step_comes { BadStepComes (meaning (texts words.now)) (seen (D.state desk.old) (D.state desk.new)) (seen (E.state err.old) (E.state err.new)) result }
+
+    // What is left of the streams and the files.
     ensures untouched { IsEarly result → out.new ≡ out.old }
-    ensures prefix_after_fault { PrefixAfterFault (meaning (texts words.now))
-        (record { text = D.text desk.old; faults = D.faults desk.old; faults_after = D.faults desk.new; started = D.started desk.old; started_after = D.started desk.new; given = D.given desk.old; given_after = D.given desk.new })
-        (record { taken = O.taken out.old; taken_after = O.taken out.new; faults = O.faults out.old; faults_after = O.faults out.new; idle = O.idle out.old; idle_after = O.idle out.new }) result }
-    ensures line { SaysLine (meaning (texts words.now))
-        (record { text = D.text desk.old; faults = D.faults desk.old; faults_after = D.faults desk.new; started = D.started desk.old; started_after = D.started desk.new; given = D.given desk.old; given_after = D.given desk.new })
-        (record { taken = O.taken out.old; taken_after = O.taken out.new; faults = O.faults out.old; faults_after = O.faults out.new; idle = O.idle out.old; idle_after = O.idle out.new })
-        (record { taken = E.taken err.old; taken_after = E.taken err.new; faults = E.faults err.old; faults_after = E.faults err.new; idle = E.idle err.old; idle_after = E.idle err.new }) result }
+    ensures prefix_after_fault { PrefixAfterFault (meaning (texts words.now)) (seen (D.state desk.old) (D.state desk.new)) (seen (O.state out.old) (O.state out.new)) result }
+    ensures line { SaysLine (meaning (texts words.now)) (seen (D.state desk.old) (D.state desk.new)) (seen (O.state out.old) (O.state out.new)) (seen (E.state err.old) (E.state err.new)) result }
     ensures quiet { HasEnded result → err.new ≡ err.old }
-    ensures texts_stay { (n : List ℕ) → D.text desk.new n ≡ D.text desk.old n }
+    ensures texts_stay { HasSameTexts (D.state desk.old) (D.state desk.new) }
 {
     answer(alloc, words, desk, out, err)
 }

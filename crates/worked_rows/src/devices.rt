@@ -1,8 +1,12 @@
 //! What a run answers where a device fails at one of its calls.
 
+use crate::rows::RING_REPORT;
 use crate::setting::Setting;
 use cover_run::Status;
+use std::alloc::Global;
+use std::marker::Sync;
 use std::test::Fail;
+use std::thread::Threads;
 
 const RING: &[u8] = b"aag 2 0 2 0 0\n2 4 1\n4 2\n";
 
@@ -12,114 +16,153 @@ const FORMULA: &[u8] = b"p cnf 1 2\n1 0\n-1 0\n";
 
 const PROOF: &[u8] = b"3 0 1 2 0\n";
 
-/// The desk's call n fails, until a run meets no failure.
+const ACCEPTED: &[u8] = b"accepted\n";
+
+fn cover() -> Setting<'static> {
+    Setting::cover(RING, SIGNALS)
+}
+
+fn lrat() -> Setting<'static> {
+    Setting::lrat(FORMULA, PROOF)
+}
+
+/// Whether a failure at this call of the desk has this status, output and line.
+fn desk_fault_is<R: Threads + Sync>(
+    rt: &R,
+    alloc: Global,
+    setting: Setting<'_>,
+    call: u64,
+    (status, out, line): (Status, &[u8], &[u8]),
+) -> Result<bool, Fail> {
+    let mut setting = setting;
+    setting.desk_fails = Some(call);
+    let outcome = setting.run(rt, alloc)?;
+    Ok(outcome.is(status, out, line))
+}
+
+/// The desk is called three times for each file, and the line names the file.
+const DESK_ROWS: &[(u64, &[u8], &[u8])] = &[
+    (
+        1,
+        b"ketch: cannot read circuit\n",
+        b"ketch: cannot read formula\n",
+    ),
+    (
+        2,
+        b"ketch: cannot read circuit\n",
+        b"ketch: cannot read formula\n",
+    ),
+    (
+        3,
+        b"ketch: cannot read circuit\n",
+        b"ketch: cannot read formula\n",
+    ),
+    (
+        4,
+        b"ketch: cannot read signals\n",
+        b"ketch: cannot read proof\n",
+    ),
+    (
+        5,
+        b"ketch: cannot read signals\n",
+        b"ketch: cannot read proof\n",
+    ),
+    (
+        6,
+        b"ketch: cannot read signals\n",
+        b"ketch: cannot read proof\n",
+    ),
+];
+
 #[test]
 fn desk_fails(rt: HostRuntime) -> Result<(), Fail> {
-    let mut met = 0u32;
-    for call in 1..100 {
-        let mut setting = Setting::cover(RING, SIGNALS);
-        setting.desk_fails = Some(call);
-        let outcome = setting.run(&rt, rt.alloc())?;
-        if outcome.status == Status::Open {
-            break;
-        }
-        met = met.saturating_add(1);
-        assert_eq!(rt; outcome.status, Status::ReadFault, "call {call}");
-        assert!(rt; outcome.out.is_empty(), "call {call}");
-        let of_circuit = outcome.err.as_slice() == b"ketch: cannot read circuit\n".as_slice();
-        let of_signals = outcome.err.as_slice() == b"ketch: cannot read signals\n".as_slice();
-        assert_eq!(rt; of_circuit, call <= 3, "call {call}");
-        assert_eq!(rt; of_signals, call > 3, "call {call}");
+    for row in DESK_ROWS {
+        let answer = (Status::ReadFault, b"".as_slice(), row.1);
+        assert!(rt;
+            desk_fault_is(&rt, rt.alloc(), cover(), row.0, answer)?,
+            "call {}",
+            row.0
+        );
+        let answer = (Status::ReadFault, b"".as_slice(), row.2);
+        assert!(rt;
+            desk_fault_is(&rt, rt.alloc(), lrat(), row.0, answer)?,
+            "call {}",
+            row.0
+        );
     }
-    assert_eq!(rt; met, 6);
     Ok(())
 }
 
-/// The sink's write n fails, of writes of at most 16 bytes, until a run meets no failure.
+/// There is no seventh call.
+#[test]
+fn desk_is_left(rt: HostRuntime) -> Result<(), Fail> {
+    assert!(rt;
+        desk_fault_is(
+            &rt,
+            rt.alloc(),
+            cover(),
+            7,
+            (Status::Open, RING_REPORT, b"".as_slice())
+        )?
+    );
+    assert!(rt;
+        desk_fault_is(
+            &rt,
+            rt.alloc(),
+            lrat(),
+            7,
+            (Status::Settled, ACCEPTED, b"".as_slice())
+        )?
+    );
+    Ok(())
+}
+
+/// Whether a failure after so many writes of at most `most` bytes leaves what these took, or the whole where there
+/// are no more.
+fn sink_fault_is<R: Threads + Sync>(
+    rt: &R,
+    alloc: Global,
+    setting: Setting<'_>,
+    (writes, most): (u32, u32),
+    (status, whole): (Status, &[u8]),
+) -> Result<bool, Fail> {
+    let mut setting = setting;
+    setting.sink_fails = Some(u64::from(writes) + 1);
+    setting.most = most as usize;
+    let outcome = setting.run(rt, alloc)?;
+    Ok(match whole.get(..writes.wrapping_mul(most) as usize) {
+        Some(taken) if taken.len() < whole.len() => {
+            outcome.is(Status::WriteFault, taken, b"ketch: cannot write\n")
+        }
+        _ => outcome.is(status, whole, b""),
+    })
+}
+
 #[test]
 fn sink_fails(rt: HostRuntime) -> Result<(), Fail> {
-    let whole = Setting::cover(RING, SIGNALS).run(&rt, rt.alloc())?;
-    let mut met = 0usize;
-    for write in 1..100 {
-        let mut setting = Setting::cover(RING, SIGNALS);
-        setting.sink_fails = Some(write);
-        setting.most = 16;
-        let outcome = setting.run(&rt, rt.alloc())?;
-        if outcome.status == Status::Open {
-            break;
-        }
-        assert_eq!(rt; outcome.status, Status::WriteFault, "write {write}");
-        assert_eq!(rt; outcome.out.len(), met.saturating_mul(16), "write {write}");
+    for writes in 0..40 {
+        let whole = (Status::Open, RING_REPORT);
         assert!(rt;
-            whole.out.as_slice().starts_with(outcome.out.as_slice()),
-            "write {write}"
+            sink_fault_is(&rt, rt.alloc(), cover(), (writes, 16), whole)?,
+            "{writes} writes"
         );
-        assert!(rt;
-            outcome.err.as_slice() == b"ketch: cannot write\n".as_slice(),
-            "write {write}"
-        );
-        met = met.saturating_add(1);
     }
-    assert_eq!(rt; met, whole.out.len().div_ceil(16));
+    for writes in 0..10 {
+        let whole = (Status::Settled, ACCEPTED);
+        assert!(rt;
+            sink_fault_is(&rt, rt.alloc(), lrat(), (writes, 1), whole)?,
+            "{writes} writes"
+        );
+    }
     Ok(())
 }
 
 /// A sink that takes nothing stops the run as a fault does.
 #[test]
 fn idle_sink(rt: HostRuntime) -> Result<(), Fail> {
-    let mut setting = Setting::cover(RING, SIGNALS);
+    let mut setting = cover();
     setting.most = 0;
     let outcome = setting.run(&rt, rt.alloc())?;
-    assert_eq!(rt; outcome.status, Status::WriteFault);
-    assert!(rt; outcome.out.is_empty());
-    Ok(())
-}
-
-/// The desk's call n fails, three calls for each file, and the line names the file.
-#[test]
-fn desk_fails_under_lrat(rt: HostRuntime) -> Result<(), Fail> {
-    let mut met = 0u32;
-    for call in 1..100 {
-        let mut setting = Setting::lrat(FORMULA, PROOF);
-        setting.desk_fails = Some(call);
-        let outcome = setting.run(&rt, rt.alloc())?;
-        if outcome.status == Status::Settled {
-            break;
-        }
-        met = met.saturating_add(1);
-        assert_eq!(rt; outcome.status, Status::ReadFault, "call {call}");
-        assert!(rt; outcome.out.is_empty(), "call {call}");
-        let of_formula = outcome.err.as_slice() == b"ketch: cannot read formula\n".as_slice();
-        let of_proof = outcome.err.as_slice() == b"ketch: cannot read proof\n".as_slice();
-        assert_eq!(rt; of_formula, call <= 3, "call {call}");
-        assert_eq!(rt; of_proof, call > 3, "call {call}");
-    }
-    assert_eq!(rt; met, 6);
-    Ok(())
-}
-
-/// Each write of one byte fails in turn.
-#[test]
-fn sink_fails_under_lrat(rt: HostRuntime) -> Result<(), Fail> {
-    let whole = b"accepted\n".as_slice();
-    let mut met = 0usize;
-    for write in 1..100 {
-        let mut setting = Setting::lrat(FORMULA, PROOF);
-        setting.sink_fails = Some(write);
-        setting.most = 1;
-        let outcome = setting.run(&rt, rt.alloc())?;
-        if outcome.status == Status::Settled {
-            break;
-        }
-        assert_eq!(rt; outcome.status, Status::WriteFault, "write {write}");
-        assert_eq!(rt; outcome.out.len(), met, "write {write}");
-        assert!(rt; whole.starts_with(outcome.out.as_slice()), "write {write}");
-        assert!(rt;
-            outcome.err.as_slice() == b"ketch: cannot write\n".as_slice(),
-            "write {write}"
-        );
-        met = met.saturating_add(1);
-    }
-    assert_eq!(rt; met, whole.len());
+    assert!(rt; outcome.is(Status::WriteFault, b"", b"ketch: cannot write\n"));
     Ok(())
 }

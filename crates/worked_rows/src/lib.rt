@@ -1,4 +1,4 @@
-//! Worked rows, as tests: whole runs over devices in memory, as a user would see them, and circuits by hand.
+//! Worked rows, as tests: whole runs over devices in memory, as a user would see them.
 #![tactic(auto)]
 
 mod setting;
@@ -7,8 +7,6 @@ pub use setting::{Outcome, Setting};
 
 #[cfg(test)]
 mod devices;
-#[cfg(test)]
-mod evaluation;
 #[cfg(test)]
 mod lrat_rows;
 #[cfg(test)]

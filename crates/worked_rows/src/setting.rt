@@ -27,6 +27,12 @@ pub struct Outcome {
     pub err: Vec<u8>,
 }
 
+impl Outcome {
+    pub fn is(&self, status: Status, out: &[u8], err: &[u8]) -> bool {
+        self.status == status && self.out.as_slice() == out && self.err.as_slice() == err
+    }
+}
+
 const ROOM: usize = 65536;
 
 fn listed(alloc: Global, call: Option<u64>) -> Result<Vec<u64>, AllocError> {

@@ -1,7 +1,7 @@
 use Rattle.std.proofs.Common.{◌≡◌, ◌<◌, List, [], ◌∷◌, ◌++◌, length, get_or, ap, sym, ◌∙◌, arith}
 use Rattle.std.proofs.lemmas.List.{get_or_default}
-use Rattle.report_text.specs.declared.report.Entry.{Entry}
-use Rattle.cover_run.specs.declared.walk.Visit.{Visit}
+use Rattle.board_core.specs.declared.entry.Entry.{Entry}
+use Rattle.sim_walk.specs.declared.visit.Visit.{Visit}
 use Rattle.cover_run.specs.Posts.{post_of}
 use Rattle.cover_run.proofs.Posted.{posts-step}
 use Rattle.cover_run.proofs.composing.posts_of.Goals as goal

@@ -1,6 +1,7 @@
 use Rattle.cover_run.proofs.CoverPromised as cover
 use Rattle.cover_run.proofs.LratPromised as lrat
 use Rattle.cover_run.proofs.Promised as promised
+use Rattle.cover_run.proofs.SubjectPromised as subject
 use Rattle.cover_run.proofs.running.run.Goals as goal
 
 pub returns-clause-headline : goal.returns-clause-headline
@@ -25,13 +26,13 @@ pub returns-clause-bad_circuit : goal.returns-clause-bad_circuit
 returns-clause-bad_circuit g c = promised.bad_circuit _ _ _ _ _ c.answer.ensures.answer
 
 pub returns-clause-bad_circuit_comes : goal.returns-clause-bad_circuit_comes
-returns-clause-bad_circuit_comes g c = cover.bad_circuit_comes _ _ _ _ _ c.answer.ensures.answer
+returns-clause-bad_circuit_comes g c = subject.bad_circuit_comes _ _ _ _ _ c.answer.ensures.answer
 
 pub returns-clause-bad_signals : goal.returns-clause-bad_signals
 returns-clause-bad_signals g c = promised.bad_signals _ _ _ _ _ c.answer.ensures.answer
 
 pub returns-clause-bad_signals_comes : goal.returns-clause-bad_signals_comes
-returns-clause-bad_signals_comes g c = cover.bad_signals_comes _ _ _ _ _ c.answer.ensures.answer
+returns-clause-bad_signals_comes g c = subject.bad_signals_comes _ _ _ _ _ c.answer.ensures.answer
 
 pub returns-clause-limit : goal.returns-clause-limit
 returns-clause-limit g c = promised.limit _ _ _ _ _ c.answer.ensures.answer
@@ -40,10 +41,10 @@ pub returns-clause-within_limits : goal.returns-clause-within_limits
 returns-clause-within_limits g c = promised.within_limits _ _ _ _ _ c.answer.ensures.answer
 
 pub returns-clause-long_circuit_comes : goal.returns-clause-long_circuit_comes
-returns-clause-long_circuit_comes g c = cover.long_circuit_comes _ _ _ _ _ c.answer.ensures.answer
+returns-clause-long_circuit_comes g c = subject.long_circuit_comes _ _ _ _ _ c.answer.ensures.answer
 
 pub returns-clause-long_signals_comes : goal.returns-clause-long_signals_comes
-returns-clause-long_signals_comes g c = cover.long_signals_comes _ _ _ _ _ c.answer.ensures.answer
+returns-clause-long_signals_comes g c = subject.long_signals_comes _ _ _ _ _ c.answer.ensures.answer
 
 pub returns-clause-long_formula_comes : goal.returns-clause-long_formula_comes
 returns-clause-long_formula_comes g c = lrat.long_formula_comes _ _ _ _ _ c.answer.ensures.answer
@@ -80,3 +81,9 @@ returns-clause-printed_comes g c = promised.printed_comes _ _ _ _ _ c.answer.ens
 
 pub returns-clause-too_much_comes : goal.returns-clause-too_much_comes
 returns-clause-too_much_comes g c = cover.too_much_comes _ _ _ _ _ c.answer.ensures.answer
+
+pub returns-clause-written : goal.returns-clause-written
+returns-clause-written g c = promised.written _ _ _ _ _ c.answer.ensures.answer
+
+pub returns-clause-no_fault : goal.returns-clause-no_fault
+returns-clause-no_fault g c = promised.no_fault _ _ _ _ _ c.answer.ensures.answer

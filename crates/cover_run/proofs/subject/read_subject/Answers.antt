@@ -1,0 +1,99 @@
+use Rattle.std.proofs.Common.{◌≡◌, subst, List, [], ◌∷◌, ℕ, length, ◌≤◌, Option, IfSome}
+use Rattle.std.proofs.lemmas.Result.{err_from_is_err_and}
+use Rattle.aig_ascii.specs.Aag.{SpellsCircuit}
+use Rattle.aig_model.specs.declared.parts.Parts.{Parts}
+use Rattle.cover_run.specs.declared.stop.File.TheVariants as files
+use Rattle.cover_run.specs.Commands.{subject_named}
+use Rattle.cover_run.specs.Covering.{IsCircuitText, HasCircuit}
+use Rattle.cover_run.specs.Files.{limit_of, subject_files}
+use Rattle.cover_run.specs.Seen.{DeskSeen, seen}
+use Rattle.cover_run.specs.Words.{Subject}
+use Rattle.cover_run.proofs.WhereTold.{IfSome-map}
+use Rattle.cover_run.proofs.Reading.{fine_first, fine_after, read_after, read_more, read_then, part_after, circuit_unread, signals_unread, circuit_refused, signals_refused}
+use Rattle.cover_run.proofs.subject.read_subject.Goals as goal
+
+-- what is known of the bytes of a file is known of its text
+circuit_text : (bytes read t : List ℕ) (c : Parts) → read ≡ bytes → length bytes ≤ limit_of files.Circuit → SpellsCircuit read c → bytes ≡ t → IsCircuitText c t
+circuit_text bytes read t c is short spells same =
+    subst (IsCircuitText c) same (record { short = short; spells = subst (λ (xs : List ℕ). SpellsCircuit xs c) is spells })
+
+has_circuit : (s : Subject) (d : DeskSeen) (bytes read : List ℕ) (c : Parts) → read ≡ bytes → length bytes ≤ limit_of files.Circuit → SpellsCircuit read c
+    → IfSome (d.old.text s.circuit) (λ t. bytes ≡ t) → HasCircuit s d c
+has_circuit s d bytes read c is short spells told =
+    IfSome-map (λ (t : List ℕ). bytes ≡ t) (IsCircuitText c) (d.old.text s.circuit) (λ t same. circuit_text bytes read t c is short spells same) told
+
+pub returns-in_err-bytes-clause-cause : goal.returns-in_err-bytes-clause-cause
+returns-in_err-bytes-clause-cause g c =
+    let p = err_from_is_err_and c.from_residual.result c.from_residual.ensures.1 in
+    rw (p.1, p.2) (circuit_unread (subject_named c.args.subject.now) (seen (g.D.Desk.state c.args.desk.now) (g.D.Desk.state c.read_part.new.desk)) c.in_err-bytes.field-0.0
+    c.in_err-bytes.ensures.cause)
+
+pub returns-in_err-bytes-clause-left : goal.returns-in_err-bytes-clause-left
+returns-in_err-bytes-clause-left g c =
+    let p = err_from_is_err_and c.from_residual.result c.from_residual.ensures.1 in
+    rw (p.1, p.2) (read_more (seen (g.D.Desk.state c.args.desk.now) (g.D.Desk.state c.read_part.new.desk)) (files.Circuit, c.args.subject.now.circuit.now)
+    ((files.Signals, c.args.subject.now.signals.now) ∷ []) c.in_err-bytes.field-0.0 c.in_err-bytes.ensures.left)
+
+pub returns-in_err-circuit-clause-cause : goal.returns-in_err-circuit-clause-cause
+returns-in_err-circuit-clause-cause g c =
+    let p = err_from_is_err_and c.from_residual-in_err-circuit.result c.from_residual-in_err-circuit.ensures.1 in
+    rw (p.1, p.2) (circuit_refused (subject_named c.args.subject.now) (seen (g.D.Desk.state c.args.desk.now) (g.D.Desk.state c.read_part.new.desk)) c.in_ok-bytes.bytes.items
+    c.deref.result.now c.in_err-circuit.field-0.0 c.deref.ensures.value c.in_ok-bytes.ensures.whole c.in_err-circuit.ensures.cause)
+
+pub returns-in_err-circuit-clause-left : goal.returns-in_err-circuit-clause-left
+returns-in_err-circuit-clause-left g c =
+    let p = err_from_is_err_and c.from_residual-in_err-circuit.result c.from_residual-in_err-circuit.ensures.1 in
+    let a = g.D.Desk.state c.args.desk.now in
+    let b = g.D.Desk.state c.read_part.new.desk in
+    rw (p.1, p.2) (read_then (subject_files (subject_named c.args.subject.now)) (seen a b) c.in_err-circuit.field-0.0 c.in_err-circuit.ensures.read
+    (fine_first a b files.Circuit c.args.subject.now.circuit.now ((files.Signals, c.args.subject.now.signals.now) ∷ []) c.in_ok-bytes.ensures.read))
+
+pub returns-in_err-bytes-2-clause-cause : goal.returns-in_err-bytes-2-clause-cause
+returns-in_err-bytes-2-clause-cause g c =
+    let p = err_from_is_err_and c.from_residual-in_err-bytes-2.result c.from_residual-in_err-bytes-2.ensures.1 in
+    let a = g.D.Desk.state c.args.desk.now in
+    let b = g.D.Desk.state c.read_part.new.desk in
+    let e = g.D.Desk.state c.read_part-2.new.desk in
+    let s = subject_named c.args.subject.now in
+    let has = has_circuit s (seen a e) c.in_ok-bytes.bytes.items c.deref.result.now _ c.deref.ensures.value c.in_ok-bytes.ensures.short c.in_ok-circuit.ensures.circuit c.in_ok-bytes.ensures.whole in
+    rw (p.1, p.2) (signals_unread s (seen a e) c.in_err-bytes-2.field-0.0 (_, has)
+    (part_after a b e files.Signals s.signals c.in_err-bytes-2.field-0.0 c.read_part.ensures.text c.read_part.ensures.counts c.in_err-bytes-2.ensures.cause))
+
+pub returns-in_err-bytes-2-clause-left : goal.returns-in_err-bytes-2-clause-left
+returns-in_err-bytes-2-clause-left g c =
+    let p = err_from_is_err_and c.from_residual-in_err-bytes-2.result c.from_residual-in_err-bytes-2.ensures.1 in
+    let a = g.D.Desk.state c.args.desk.now in
+    let b = g.D.Desk.state c.read_part.new.desk in
+    let e = g.D.Desk.state c.read_part-2.new.desk in
+    rw (p.1, p.2) (read_after a b e files.Circuit c.args.subject.now.circuit.now ((files.Signals, c.args.subject.now.signals.now) ∷ []) c.in_err-bytes-2.field-0.0
+    c.in_ok-bytes.ensures.read c.in_err-bytes-2.ensures.left)
+
+pub returns-in_err-signals-clause-cause : goal.returns-in_err-signals-clause-cause
+returns-in_err-signals-clause-cause g c =
+    let p = err_from_is_err_and c.from_residual-in_err-signals.result c.from_residual-in_err-signals.ensures.1 in
+    let a = g.D.Desk.state c.args.desk.now in
+    let e = g.D.Desk.state c.read_part-2.new.desk in
+    let s = subject_named c.args.subject.now in
+    let bytes = c.in_ok-bytes-2.bytes.items in
+    let has = has_circuit s (seen a e) c.in_ok-bytes.bytes.items c.deref.result.now _ c.deref.ensures.value c.in_ok-bytes.ensures.short c.in_ok-circuit.ensures.circuit c.in_ok-bytes.ensures.whole in
+    let told = subst (λ (o : Option (List ℕ)). IfSome o (λ t. bytes ≡ t)) (c.read_part.ensures.text s.signals) c.in_ok-bytes-2.ensures.whole in
+    rw (p.1, p.2) (signals_refused s (seen a e) _ bytes c.deref-2.result.now c.in_err-signals.field-0.0 c.deref-2.ensures.value c.in_ok-bytes-2.ensures.short has told
+    c.in_err-signals.ensures.cause)
+
+pub returns-in_err-signals-clause-left : goal.returns-in_err-signals-clause-left
+returns-in_err-signals-clause-left g c =
+    let p = err_from_is_err_and c.from_residual-in_err-signals.result c.from_residual-in_err-signals.ensures.1 in
+    let a = g.D.Desk.state c.args.desk.now in
+    let b = g.D.Desk.state c.read_part.new.desk in
+    let e = g.D.Desk.state c.read_part-2.new.desk in
+    rw (p.1, p.2) (read_then (subject_files (subject_named c.args.subject.now)) (seen a e) c.in_err-signals.field-0.0 c.in_err-signals.ensures.read
+    (fine_after a b e files.Circuit c.args.subject.now.circuit.now ((files.Signals, c.args.subject.now.signals.now) ∷ []) c.in_ok-bytes.ensures.read
+    (fine_first b e files.Signals c.args.subject.now.signals.now [] c.in_ok-bytes-2.ensures.read)))
+
+pub returns-clause-read : goal.returns-clause-read
+returns-clause-read g c =
+    let a = g.D.Desk.state c.args.desk.now in
+    let b = g.D.Desk.state c.read_part.new.desk in
+    let e = g.D.Desk.state c.read_part-2.new.desk in
+    fine_after a b e files.Circuit c.args.subject.now.circuit.now ((files.Signals, c.args.subject.now.signals.now) ∷ []) c.in_ok-bytes.ensures.read
+    (fine_first b e files.Signals c.args.subject.now.signals.now [] c.in_ok-bytes-2.ensures.read)
