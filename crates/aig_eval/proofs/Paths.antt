@@ -1,5 +1,5 @@
 -- A start and rows of inputs have a path.
-use Rattle.std.proofs.Common.{◌≡◌, ℕ, Bool, List, [], ◌∷◌, map, length, refl, All}
+use Rattle.std.proofs.Common.{◌≡◌, Bool, List, [], ◌∷◌, map, length, refl, All}
 use Rattle.std.proofs.lemmas.List.Elements.{All-head, All-tail}
 use Rattle.aig_model.specs.WellFormed.{IsCircuit}
 use Rattle.aig_model.specs.Meaning.{Assignment, Path, input_values, next_values}

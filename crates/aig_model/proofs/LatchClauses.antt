@@ -1,5 +1,5 @@
 -- What an invariant's clauses say along a path.
-use Rattle.std.proofs.Common.{◌≡◌, ℕ, ◌+◌, zero, suc, ◌<◌, Bool, ℤ, List, [], ◌∷◌, length, get_or, sym, subst, arith, All}
+use Rattle.std.proofs.Common.{◌≡◌, ℕ, zero, suc, ◌<◌, Bool, ℤ, List, [], ◌∷◌, length, get_or, sym, subst, arith, All}
 use Rattle.std.proofs.lemmas.List.Elements.{All-head, All-tail, All-get_or}
 use Rattle.aig_model.specs.Meaning.{Assignment, Fits, IsLegal, Path, Reachable, latch_values, next_values}
 use Rattle.aig_model.specs.LatchClauses.{SatisfiesClauses, IsInvariant, Bars}

@@ -1,7 +1,7 @@
 -- Laws of what a circuit means.
 use Rattle.std.specs.Prelude.{ℕ, ◌+◌, ◌^◌, ◌<◌, ◌≤◌, ◌≡◌, ◌↔◌, Bool, ℤ, List, [], ◌∷◌, ◌++◌, map, take, drop, length, get_or, All, Contains, IsTrue, slice_get, Some}
 use Rattle.aig_model.specs.WellFormed.{IsCircuit}
-use Rattle.aig_model.specs.Meaning.{Assignment, Fits, IsLegal, IsStep, IsReset, Path, Run, At, Reachable, GoalOf, goal_of, input_values, latch_values, next_values, state_after}
+use Rattle.aig_model.specs.Meaning.{Assignment, Fits, IsLegal, IsStep, IsReset, Path, Run, At, Reachable, GoalOf, goal_of, input_values, latch_values, state_after}
 use Rattle.aig_model.specs.Replays.{Shows}
 use Rattle.aig_model.specs.LatchClauses.{Bars}
 use Rattle.aig_model.specs.Dependence.{Meets, DependsOnLatch}

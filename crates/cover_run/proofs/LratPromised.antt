@@ -13,8 +13,8 @@ use Rattle.lrat_text.proofs.Whole as lrat_text
 use Rattle.lrat_text.specs.Accepted.{Accepted}
 use Rattle.lrat_check.specs.FirstFault.{first_fault}
 use Rattle.lrat_check.specs.declared.fault.ProofKind.{ProofKind}
-use Rattle.lrat_check.proofs.Agreeing.{accepted_without_fault}
-use Rattle.lrat_check.proofs.Refuting.{accepted_refutes}
+use Rattle.lrat_check.proofs.Agreement.{accepted_without_fault}
+use Rattle.lrat_check.proofs.Refutation.{accepted_refutes}
 use Rattle.cover_run.specs.declared.stop.File.TheVariants as files
 use Rattle.cover_run.specs.declared.stop.Refusal.TheVariants as refusals
 use Rattle.cover_run.specs.declared.stop.Stop.{Stop}

@@ -1,5 +1,5 @@
 -- The numbers that callers drew.
-use Rattle.std.specs.Prelude.{ℕ, List, cond, ◌==◌, nat_lt, map}
+use Rattle.std.specs.Prelude.{ℕ, List, cond, ◌==◌, nat_lt}
 use Rattle.job_desk.specs.Lists.{total}
 
 -- a number, and the caller that drew it

@@ -1,12 +1,12 @@
 -- The rule of the desk: what holds of its word and of all views between any two steps.
-use Rattle.std.specs.Prelude.{◌≡◌, ◌≢◌, ℕ, ◌+◌, ◌-◌, ◌<◌, ◌≤◌, List, [], ◌∷◌, ◌++◌, Option, None, Some, length, slice_index, cond, nat_lt}
+use Rattle.std.specs.Prelude.{◌≡◌, ◌≢◌, ℕ, ◌+◌, ◌-◌, ◌<◌, ◌≤◌, List, [], ◌∷◌, ◌++◌, None, Some, length, slice_index, cond, nat_lt}
 use mathlib.Core.Option.{some}
 use lib.ListN.{get_elem?}
 use Rattle.atomic_table.specs.Table.{Me, Step}
 use Rattle.job_desk.specs.declared.view.View.{View}
 use Rattle.job_desk.specs.declared.view.Terms.{Terms}
 use Rattle.job_desk.specs.Lists.{total, once_below}
-use Rattle.job_desk.specs.Draws.{Draw, draw, draws_of, draws_by, late_by}
+use Rattle.job_desk.specs.Draws.{draw, draws_of, draws_by, late_by}
 
 -- the first caller's view when the desk is made
 abbrev pub opening_view : ℕ → ℕ → View

@@ -1,4 +1,4 @@
-pub mod Agreeing
+pub mod Agreement
 pub mod AssumedSigns
 pub mod Blank
 pub mod CallAnswers
@@ -8,7 +8,7 @@ pub mod FewLemmas
 pub mod FormulaIds
 pub mod LiveClauses
 pub mod Negations
-pub mod Refuting
+pub mod Refutation
 pub mod SpentFaults
 pub mod StepKinds
 pub mod StoreOrder

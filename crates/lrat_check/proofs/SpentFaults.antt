@@ -14,7 +14,7 @@ use Rattle.lrat_check.specs.FirstFault.{add_fault, step_fault, is_empty}
 use Rattle.lrat_text.specs.Spent.{SameLiterals, IsLemma, SpentFrom, SpentOn}
 use Rattle.lrat_check.specs.SpentFault.{same_literals, is_lemma, spent_at, spent_from, counted, spent_fault}
 use Rattle.cnf_base.proofs.Literals.{same_tests, same_lit-true, has-head, list_any-found, list_any-at}
-use Rattle.lrat_check.proofs.Agreeing.{add_without_fault, no_add_fault}
+use Rattle.lrat_check.proofs.Agreement.{add_without_fault, no_add_fault}
 
 -- whether all literals of one clause stand in another
 list_all-says : (a b : List ℤ) → list_all (has b) a ≡ true → (l : ℤ) → has a l ≡ true → has b l ≡ true

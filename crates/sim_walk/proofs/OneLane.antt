@@ -1,12 +1,12 @@
 -- The visits of the zero walk, by its one lane.
-use Rattle.std.proofs.Common.{◌≡◌, ℕ, zero, suc, ◌+◌, ◌<◌, ◌≤◌, List, [], ◌∷◌, length, get_or, refl, sym, ap, subst, ◌∙◌, arith, All, AllPairs, Contains, Some, inl, inr}
-use Rattle.std.specs.Prelude.{slice_get, ◌⊎◌}
+use Rattle.std.proofs.Common.{◌≡◌, ℕ, zero, suc, ◌+◌, ◌<◌, ◌≤◌, List, [], length, get_or, refl, sym, ap, subst, ◌∙◌, arith, All, AllPairs, Contains, Some, inl, inr}
+use Rattle.std.specs.Prelude.{slice_get}
 use Rattle.std.proofs.lemmas.List.{get_or_default}
 use Rattle.std.proofs.lemmas.List.Elements.{All-get_or, All-weaker}
 use Rattle.aig_model.specs.Meaning.{Assignment, Run, input_values, goal_of}
 use Rattle.aig_model.specs.declared.parts.Parts.{Parts}
 use Rattle.sim_walk.specs.declared.visit.Visit.{Visit}
-use Rattle.sim_walk.specs.Walk.{Lane, IsEarlier, IsVisited, IsFirstVisit, AreVisits, goals_of}
+use Rattle.sim_walk.specs.Walk.{Lane, IsVisited, IsFirstVisit, AreVisits, goals_of}
 use Rattle.sim_walk.specs.Zero.{zero_state, zero_row, zero_lane, zero_lanes}
 
 -- the walk of so many steps visits a goal at step t: the assignments 0 to t, all inputs 0, are a run, and the last one shows it

@@ -1,7 +1,7 @@
 //! A cursor over the bytes of a text, which reads the fields of a line in place.
 
 ghost use Rattle.std.specs.Prelude.{◌≡◌, ◌↔◌, ℕ, List, [], not, nat_eq, min, true, false, IsTrue, OnSome};
-ghost use Rattle.std.specs.Bool.{OnTrue};
+ghost use Rattle.std.specs.Bool.{OnTrue, OnFalse};
 ghost use Rattle.std.specs.List.{starts_with};
 ghost use Rattle.std.specs.Option.{option_map};
 ghost use Rattle.text_words.specs.Numbers.{natural_of};
@@ -65,6 +65,7 @@ impl<'a> Cursor<'a> {
         requires { (word : List ℕ) × IsMagic magic.now word }
         ensures value { result ≡ starts_with nat_eq self.old.bytes magic.now }
         ensures passes { OnTrue result (PassesField self.old self.new) }
+        ensures stays { OnFalse result (self.new ≡ self.old) }
     {
         if !self.rest.starts_with(magic) {
             return false;
@@ -86,6 +87,7 @@ impl<'a> Cursor<'a> {
         requires { ends_line self.old.bytes ≡ false }
         ensures value { result ≡ option_map (λ n. min n u64.MAX) (natural_of (word self.old.bytes)) }
         ensures passes { OnSome result (PassesField self.old self.new) }
+        ensures stays { result ≡ None → self.new ≡ self.old }
     {
         let (value, rest) = digits(self.rest);
         if rest.len() == self.rest.len() {

@@ -1,8 +1,7 @@
-use Rattle.std.proofs.Common.{arith, ◌≡◌, ℕ, ◌+◌, ◌<◌, ◌≤◌, ◌++◌, [], ◌∷◌, length, get_or, Vec, Global, Some, ap, sym, ◌∙◌, length-append, length-set}
+use Rattle.std.proofs.Common.{arith, ◌≡◌, ℕ, ◌+◌, ◌<◌, [], ◌∷◌, length, get_or, Vec, Global, Some, ap, sym, ◌∙◌, length-append, length-set}
 use Rattle.std.proofs.lemmas.Grind.{common_steps}
 use Rattle.std.proofs.lemmas.List.{get_or-map}
 use Rattle.std.proofs.lemmas.Option.{slice_get-get_or}
-use Rattle.job_desk.specs.Lists.{total, times}
 use Rattle.job_desk.specs.Draws.{draws_of}
 use Rattle.job_desk.specs.Inside.{number_lists}
 use Rattle.job_desk.specs.Seats.{JobDeskState, JobSeatState, JobSeatsState}

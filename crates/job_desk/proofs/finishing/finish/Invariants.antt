@@ -1,4 +1,4 @@
-use Rattle.std.proofs.Common.{◌≡◌, ℕ, ◌+◌, ◌<◌, ◌≤◌, [], Some, All, length, get_or, Vec, Global}
+use Rattle.std.proofs.Common.{◌≡◌, ℕ, ◌+◌, ◌<◌, ◌≤◌, [], All, length, get_or, Vec, Global}
 use Rattle.job_desk.specs.Lists.{total, times}
 use Rattle.job_desk.specs.Draws.{draws_of}
 use Rattle.job_desk.specs.Seats.{JobSeatState, IsDone}

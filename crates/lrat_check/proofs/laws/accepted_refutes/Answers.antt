@@ -1,4 +1,4 @@
-use Rattle.lrat_check.proofs.Refuting.{accepted_refutes}
+use Rattle.lrat_check.proofs.Refutation.{accepted_refutes}
 use Rattle.lrat_check.proofs.laws.accepted_refutes.Goals as goal
 
 pub returns : goal.returns

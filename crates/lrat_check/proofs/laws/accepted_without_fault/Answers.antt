@@ -1,4 +1,4 @@
-use Rattle.lrat_check.proofs.Agreeing.{accepted_without_fault}
+use Rattle.lrat_check.proofs.Agreement.{accepted_without_fault}
 use Rattle.lrat_check.proofs.laws.accepted_without_fault.Goals as goal
 
 pub returns : goal.returns

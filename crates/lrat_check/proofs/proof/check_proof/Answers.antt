@@ -3,9 +3,9 @@ use Rattle.lrat_check.specs.Answers.{IsProofFault}
 use Rattle.lrat_check.specs.FirstFault.{first_fault}
 use Rattle.lrat_text.specs.Accepted.{Accepted}
 use Rattle.cnf_base.specs.Meaning.{HasNoModel}
-use Rattle.lrat_check.proofs.Agreeing.{accepted_without_fault}
+use Rattle.lrat_check.proofs.Agreement.{accepted_without_fault}
 use Rattle.lrat_check.proofs.CallAnswers.{OnOk-from_answer, IsOkUnless-from_answer}
-use Rattle.lrat_check.proofs.Refuting.{accepted_refutes}
+use Rattle.lrat_check.proofs.Refutation.{accepted_refutes}
 use Rattle.lrat_check.proofs.proof.check_proof.Goals as goal
 
 pub returns-clause-accepted : goal.returns-clause-accepted

@@ -1,6 +1,6 @@
 use Rattle.std.proofs.Common.{◌≡◌, rules, Some}
 use Rattle.lrat_check.specs.FirstFault.{add_fault}
-use Rattle.lrat_check.proofs.Agreeing.{add_without_fault, no_add_fault}
+use Rattle.lrat_check.proofs.Agreement.{add_without_fault, no_add_fault}
 use Rattle.lrat_check.specs.declared.fault.ProofKind.TheVariants.{NoEmpty}
 use Rattle.lrat_check.proofs.StepKinds.{add_kind}
 use Rattle.lrat_check.proofs.checker.Checker.add.Goals as goal

@@ -1,6 +1,6 @@
 use Rattle.std.proofs.Common.{◌≡◌, refl, rules, Some}
 use Rattle.lrat_check.specs.FirstFault.{delete_fault}
-use Rattle.lrat_check.proofs.Agreeing.{delete_without_fault, no_delete_fault}
+use Rattle.lrat_check.proofs.Agreement.{delete_without_fault, no_delete_fault}
 use Rattle.lrat_check.specs.declared.fault.ProofKind.TheVariants.{NoEmpty}
 use Rattle.lrat_check.proofs.StepKinds.{delete_kind}
 use Rattle.lrat_check.proofs.checker.Checker.delete.Goals as goal
