@@ -27,7 +27,7 @@ pub record FailsAt (c : Parts) (trace : Trace) (t : ℕ) : Type 0 where
   pub rows : map (input_values c) frames ≡ take (t + 1) trace.rows.rows
   pub fails : ¬ IsLegal c (get_or frames t [])
 
--- what may stop a replay that begins in a reset state: the first false constraint, or want of memory
+-- what may stop a replay that begins in a reset state: the first false constraint, or lack of memory
 abbrev pub MayStop : Parts → Trace → ReplayFault → Type 0
 MayStop c trace Shape = ⊥
 MayStop c trace (NotReset k) = ⊥

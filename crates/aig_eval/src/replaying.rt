@@ -34,8 +34,7 @@ fn replay_rows(
     requires few { length trace.now.rows.rows < 2 ^ 32 }
     ensures { MatchResult result (Shows circuit.now signals.now.lits trace.now) (MayStop circuit.now trace.now) }
 {
-    // Its clause says that the circuit is well formed.
-    let _top = circuit.top();
+    circuit.is_well_formed();
     let mut state = trace.start.part(alloc, 0, trace.start.len())?;
     let mut goal = 0;
     for step in 0..trace.rows.len() {
@@ -75,8 +74,7 @@ pub fn replay(
         → IsFirst (FailsAt circuit.now trace.now) t
         → IsErrOf result (ReplayFault.Constraint t) ⊎ IsErrOf result ReplayFault.OutOfMemory }
 {
-    // Its clause says that the circuit is well formed.
-    let _top = circuit.top();
+    circuit.is_well_formed();
     if !has_shape(circuit, trace) {
         return Err(ReplayFault::Shape);
     }

@@ -22,8 +22,7 @@ pub(crate) fn first_wrong(circuit: &Circuit, start: &Bits) -> Option<u32>
     requires { length start.now ≡ length circuit.now.latches }
     ensures { MatchOption result (IsReset circuit.now start.now) (IsFirst (StartsWrong circuit.now start.now)) }
 {
-    // Its clause says that the circuit is well formed.
-    let _top = circuit.top();
+    circuit.is_well_formed();
     let latches = circuit.latches();
     for place in 0..latches.len() {
         if !agrees(latches.get(place).reset, start.get(place)) {

@@ -14,8 +14,7 @@ pub fn next_state(alloc: Global, circuit: &Circuit, values: &Bits) -> Result<Bit
     requires { length values.now ≡ circuit.now.top + 1 }
     ensures { IfOk result (λ state. state ≡ next_values circuit.now values.now) }
 {
-    // Its clause says that the circuit is well formed.
-    let _top = circuit.top();
+    circuit.is_well_formed();
     let latches = circuit.latches();
     let mut state = Bits::all_false(alloc, latches.len())?;
     for place in 0..latches.len() {
@@ -36,7 +35,6 @@ pub fn is_legal(circuit: &Circuit, values: &Bits) -> bool
     requires { length values.now ≡ circuit.now.top + 1 }
     ensures { IsTrue result ↔ IsLegal circuit.now values.now }
 {
-    // Its clause says that the circuit is well formed.
-    let _top = circuit.top();
+    circuit.is_well_formed();
     are_true(values, circuit.constraints().as_slice())
 }

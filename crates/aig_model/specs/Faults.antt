@@ -49,7 +49,7 @@ pub record IsOrderFault (c : Parts) (gate : ℕ) : Type 0 where
   pub known : All (IsKnown c) (uses c)
   pub first : IsFirst (IsMisplaced c.gates) gate
 
--- what a fault says of the parts; want of memory says nothing of them
+-- what a fault says of the parts; lack of memory says nothing of them
 abbrev pub Says : Parts → BuildFault → Type 0
 Says c (Range lit) = IsRangeFault c lit
 Says c (Defined lit) = IsDefinedFault c lit

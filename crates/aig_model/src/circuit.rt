@@ -52,6 +52,13 @@ impl Circuit {
         Ok(Circuit { parts })
     }
 
+    /// Says that the parts are those of a circuit.
+    pub fn is_well_formed(&self)
+        ensures { IsCircuit self.now }
+    {
+        let _ = &self.parts;
+    }
+
     /// The greatest variable.
     pub fn top(&self) -> u32
         ensures value { result ≡ self.now.top }

@@ -111,7 +111,7 @@ fn report_of(
     ensures signals { IsSignals circuit.now signals.now.lits }
     ensures options { FitsOptions options }
 {
-    let _top = circuit.top();
+    circuit.is_well_formed();
     let lits = signals.lits();
     let reached = reached_among(&goals) as u32;
     Report {

@@ -54,7 +54,7 @@ pub record IsCycle (gates : List AndGate) (lhs : ℕ) : Type 0 where
   pub named : lhs ≡ gate.lhs
   pub least : (h : AndGate) → DependsOnCycle gates h → lhs ≤ h.lhs
 
--- what a fault says of the gates; want of memory says nothing of them
+-- what a fault says of the gates; lack of memory says nothing of them
 abbrev pub IsFault : List AndGate → OrderFault → Type 0
 IsFault gates (Cycle lhs) = IsCycle gates lhs
 IsFault gates OutOfMemory = Unit {0}

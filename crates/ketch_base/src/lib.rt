@@ -1,4 +1,4 @@
-//! What every crate of Ketch stands on: the one list type, and the one error for want of memory.
+//! What every crate of Ketch stands on: the one list type, and the one error for out of memory.
 #![tactic(auto)]
 
 mod memory;

@@ -42,6 +42,13 @@ impl VarQueue {
         Ok(VarQueue { next, prev })
     }
 
+    /// Says that each variable stands in the order once.
+    pub fn is_well_formed(&self)
+        ensures { IsOrder self.now }
+    {
+        let _ = &self.next;
+    }
+
     /// How many variables there are.
     pub fn vars(&self) -> u32
         ensures value { result ≡ length self.now }

@@ -63,6 +63,13 @@ impl Trail {
         })
     }
 
+    /// Says that levels, reasons and values agree with the assigned literals.
+    pub fn is_well_formed(&self)
+        ensures { IsTrail self.now }
+    {
+        let _ = &self.vars;
+    }
+
     /// The variables are 1 up to this number.
     pub fn vars(&self) -> u32
         ensures value { result ≡ self.now.vars }

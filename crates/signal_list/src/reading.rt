@@ -29,7 +29,7 @@ pub fn read_signals(alloc: Global, bytes: &[u8], circuit: &Circuit) -> Result<Si
     ensures every_fault { (line : ℕ) (kind : SigKind) → IsFirstFault circuit.now bytes.now line kind
         → Answers result (Err (SigFault.At line kind)) }
 {
-    let _top = circuit.top();
+    circuit.is_well_formed();
     let lits = read_lits(alloc, bytes, circuit)?;
     Ok(Signals::new(lits, circuit))
 }

@@ -44,7 +44,7 @@ fn zero_rows(alloc: Global, circuit: &Circuit, count: u64) -> Result<Rows, OutOf
     ensures width { IfOk result (λ rows. rows.width ≡ length circuit.now.inputs) }
     ensures rows { IfOk result (λ rows. rows.rows ≡ replicate count (zero_row circuit.now)) }
 {
-    let _top = circuit.top();
+    circuit.is_well_formed();
     let row = zero_row(alloc, circuit)?;
     let mut rows = Rows::new(alloc, row.len() as u32);
     for _done in 0..count {
@@ -78,7 +78,7 @@ pub fn zero_walk(
     requires { signals.now.circuit ≡ circuit.now }
     ensures { IfOk result (AreZeroVisits circuit.now signals.now.lits options.now.length) }
 {
-    let _top = circuit.top();
+    circuit.is_well_formed();
     let row = zero_row(alloc, circuit)?;
     let mut state = zero_state(alloc, circuit)?;
     let mut visits = FirstVisits::new(alloc, signals.goals())?;
