@@ -30,7 +30,7 @@ returns-in_err-goal-clause-shown c =
     let p = err_from_is_err_and c.from_residual.result c.from_residual.ensures.1 in
     let fault : ReplayFault = c.in_err-goal.field-0.0 in
     rw (p.1, p.2) (λ other shows.
-    inr (ap Err (stops_shown c.args.circuit.now c.args.signals.now.lits c.args.trace.now fault other c.top-top.ensures.well_formed c.in_err-goal.ensures shows)))
+    inr (ap Err (stops_shown c.args.circuit.now c.args.signals.now.lits c.args.trace.now fault other c.is_well_formed.ensures c.in_err-goal.ensures shows)))
 
 pub returns-in_err-goal-clause-reset : goal.returns-in_err-goal-clause-reset
 returns-in_err-goal-clause-reset c =
@@ -55,7 +55,7 @@ returns-in_err-goal-clause-fails c =
 pub returns-clause-shown : goal.returns-clause-shown
 returns-clause-shown c =
     λ other shows.
-    inl (ap Ok (shown_once c.args.circuit.now c.args.signals.now.lits c.args.trace.now c.in_ok-goal.goal other c.top-top.ensures.well_formed
+    inl (ap Ok (shown_once c.args.circuit.now c.args.signals.now.lits c.args.trace.now c.in_ok-goal.goal other c.is_well_formed.ensures
     c.in_ok-goal.ensures shows))
 
 pub returns-clause-reset : goal.returns-clause-reset
@@ -68,5 +68,5 @@ returns-clause-reset c =
 pub returns-clause-fails : goal.returns-clause-fails
 returns-clause-fails c =
     λ t shape reset first.
-    absurd (shown_not_failing c.args.circuit.now c.args.signals.now.lits c.args.trace.now c.in_ok-goal.goal t c.top-top.ensures.well_formed
+    absurd (shown_not_failing c.args.circuit.now c.args.signals.now.lits c.args.trace.now c.in_ok-goal.goal t c.is_well_formed.ensures
     c.in_ok-goal.ensures first.here)

@@ -21,7 +21,7 @@ returns-then-not-is_legal c =
     let P = λ (row : List Bool). IsStep c.args.circuit.now c.loop-step.state row c.in_ok-values.values in
     let step = subst P c.in_ok-row.ensures.row c.in_ok-values.ensures in
     found_fails c.args.circuit.now c.args.signals.now.lits c.args.trace.now c.loop-step.step c.loop-step.state c.loop-step.goal c.in_ok-values.values
-    c.top-top.ensures.well_formed c.loop-step.invariant (omega arith) step
+    c.is_well_formed.ensures c.loop-step.invariant (omega arith) step
     (λ legal. let wrong : false ≡ true = c.if-not-is_legal.ensures.1 legal in cc)
 
 pub loop-step-preserved : goal.loop-step-preserved

@@ -10,7 +10,7 @@ pub value-requires : goal.value-requires
 value-requires c =
     let inside : c.loop-place.place < length c.latches-latches.result.now = omega arith in
     let room =
-    room_for_latches c.args.circuit.now c.top-top.ensures.well_formed c.loop-place.place c.get.result.now (rw (← c.latches-latches.ensures) inside) 1 0 (omega arith) in
+    room_for_latches c.args.circuit.now c.is_well_formed.ensures c.loop-place.place c.get.result.now (rw (← c.latches-latches.ensures) inside) 1 0 (omega arith) in
     rw (c.requires, c.get.ensures, c.latches-latches.ensures) room
 
 pub returns : goal.returns

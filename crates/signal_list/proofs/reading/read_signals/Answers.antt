@@ -4,7 +4,7 @@ use Rattle.signal_list.proofs.OneReading.{not-both}
 use Rattle.signal_list.proofs.reading.read_signals.Goals as goal
 
 pub new-requires : goal.new-requires
-new-requires c = are-signals c.args.circuit.now c.args.bytes.now c.in_ok-lits.lits c.top-top.ensures.well_formed c.in_ok-lits.ensures.lits
+new-requires c = are-signals c.args.circuit.now c.args.bytes.now c.in_ok-lits.lits c.is_well_formed.ensures c.in_ok-lits.ensures.lits
 
 pub returns-in_err-lits-clause-every_list : goal.returns-in_err-lits-clause-every_list
 returns-in_err-lits-clause-every_list c lits s =

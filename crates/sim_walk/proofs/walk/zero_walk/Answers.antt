@@ -23,7 +23,7 @@ returns-in_default c =
     let step : IsStep circuit c.loop-step.state (zero_row circuit) values = subst (λ (row : List Bool). IsStep circuit c.loop-step.state row values) c.in_ok-row.ensures c.in_ok-values.ensures in
     rw c.into_visits.ensures
     (walked_stopped circuit c.args.signals.now.lits c.args.options.now.length c.loop-step.step c.loop-step.state c.loop-step.visits.visits values
-    c.top-top.ensures.well_formed c.loop-step.invariant.walked step (λ legal. false≢true (c.in_default.ensures.legal.1 legal)))
+    c.is_well_formed.ensures c.loop-step.invariant.walked step (λ legal. false≢true (c.in_default.ensures.legal.1 legal)))
 
 pub add-requires : goal.add-requires
 add-requires c = omega (arith, c.in-Some.ensures.goal, goal_of-lt c.args.signals.now.lits c.in_ok-values.values, c.loop-step.invariant.goals)
@@ -36,7 +36,7 @@ returns-then-is_complete c =
     rw c.into_visits-then-is_complete.ensures
     (walked_full circuit c.args.signals.now.lits c.args.options.now.length (c.loop-step.step + 1) (next_values circuit values) c.add.new.self.visits
     (walked_step circuit c.args.signals.now.lits c.args.options.now.length c.loop-step.step c.loop-step.state c.loop-step.visits.visits c.add.new.self.visits
-    (record { goal = c.in-Some.goal; lane = 0; step = c.loop-step.step }) values c.top-top.ensures.well_formed c.loop-step.invariant.walked step (c.in-Some.ensures.legal.0 refl)
+    (record { goal = c.in-Some.goal; lane = 0; step = c.loop-step.step }) values c.is_well_formed.ensures c.loop-step.invariant.walked step (c.in-Some.ensures.legal.0 refl)
     (omega arith) c.in_ok-add.ensures.ok c.in-Some.ensures.goal refl refl)
     (c.if-is_complete.ensures.0 refl ∙ (c.in_ok-add.ensures.goals ∙ c.loop-step.invariant.goals)))
 
@@ -48,7 +48,7 @@ loop-step-preserved c =
     let legal : IsLegal circuit values = c.in-Some.ensures.legal.0 refl in
     record {
       walked = rw c.in_ok-state-2.ensures (walked_step circuit c.args.signals.now.lits c.args.options.now.length c.loop-step.step c.loop-step.state c.loop-step.visits.visits c.add.new.self.visits
-          (record { goal = c.in-Some.goal; lane = 0; step = c.loop-step.step }) values c.top-top.ensures.well_formed c.loop-step.invariant.walked step legal
+          (record { goal = c.in-Some.goal; lane = 0; step = c.loop-step.step }) values c.is_well_formed.ensures c.loop-step.invariant.walked step legal
           (omega arith) c.in_ok-add.ensures.ok c.in-Some.ensures.goal refl refl);
       goals = c.in_ok-add.ensures.goals ∙ c.loop-step.invariant.goals;
     }
@@ -57,4 +57,4 @@ pub returns : goal.returns
 returns c =
     rw c.into_visits-2.ensures
     (walked_whole c.args.circuit.now c.args.signals.now.lits c.args.options.now.length c.loop-step.step c.loop-step.state c.loop-step.visits.visits
-    c.top-top.ensures.well_formed c.loop-step.invariant.walked (omega arith))
+    c.is_well_formed.ensures c.loop-step.invariant.walked (omega arith))
