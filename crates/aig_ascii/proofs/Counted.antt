@@ -1,33 +1,35 @@
 -- A section's lines, one after another.
-use Rattle.std.proofs.Common.{◌≡◌, ℕ, zero, suc, is_some, ◌+◌, ◌-◌, ◌*◌, ◌%◌, ◌<◌, ◌≤◌, Bool, true, false, cond, not, ◌&&◌, ◌||◌, nat_eq, eqb, nat_le, None, List, [], ◌∷◌, ◌++◌, map, take, drop, get_or, refl, sym, ap, ◌∙◌, subst, append_assoc, arith}
+use Rattle.std.proofs.Common.{◌≡◌, ℕ, zero, suc, is_some, ◌+◌, ◌-◌, ◌*◌, ◌%◌, ◌<◌, Bool, true, false, not, ◌&&◌, ◌||◌, nat_eq, eqb, nat_le, None, List, [], ◌∷◌, ◌++◌, map, drop, refl, sym, ap, ◌∙◌, subst, append_assoc, arith}
 use Rattle.std.proofs.lemmas.List.{map-append, append-nil}
-use Rattle.std.proofs.lemmas.List.Concat.{flat_map-append}
 use Rattle.aig_model.specs.Literal.{var}
 use Rattle.text_words.specs.Text.{Rest, word, fields, number, next_line, lines_of, after_lines}
-use Rattle.aig_ascii.specs.Demands.{Demand, demand}
+use Rattle.aig_ascii.specs.Demands.{demand}
 use Rattle.aig_ascii.specs.Fields.{optional, want_demands, wants_demands, none_demands, line_demands}
-use Rattle.aig_ascii.specs.Sections.{Form, input, latch, plain, gate, defines, defining, literal, is_reset, wants_of, defined_by, used_by, section_demands, section_uses, number_at, lits_of}
+use Rattle.aig_ascii.specs.Sections.{Form, input, latch, plain, gate, defines, defining, literal, is_reset, wants_of, defined_by, used_by, section_demands, section_uses, number_at}
 use Rattle.aig_ascii.specs.Drafts.{Draft, definers_of, Covers, use_of, StandFor, pending_demands}
-use Rattle.aig_ascii.specs.Reading.{first_unmet, Fails}
+use Rattle.aig_ascii.specs.FirstFaults.{first_unmet, Fails}
 use Rattle.aig_ascii.specs.declared.draft.Use.{Use}
-use Rattle.aig_ascii.specs.declared.fault.AagFault.{AagFault}
+use Rattle.aig_ascii.specs.declared.fault.Fault.{Fault}
 use Rattle.aig_ascii.specs.declared.fault.AagKind.TheVariants.{Number, Range, Defined}
 use Rattle.aig_model.specs.WellFormed.{latch_lits, left_sides}
 use Rattle.aig_model.specs.declared.parts.Latch.{Latch}
 use Rattle.aig_model.specs.declared.parts.AndGate.{AndGate}
 use Rattle.std.specs.List.{flat_map}
 use Rattle.aig_ascii.proofs.Defined.{defines-append, defines-between, defines-more}
-use Rattle.aig_ascii.proofs.Unmet.{Unmet, first_unmet-behind, first_unmet-append, fails-front, fails-behind, or_else, stand-front}
+use Rattle.aig_ascii.proofs.FirstFaults.{Unmet, first_unmet-behind, fails-front}
+use Rattle.aig_ascii.proofs.Uses.{stand-front}
 use Rattle.text_words.specs.Numbers.{natural_of}
+use Rattle.aig_ascii.specs.Kinds.{aag_kind}
+use Rattle.aig_ascii.specs.declared.fault.AagKind.{AagKind}
 
 -- ---- the first of n lines, and the others
 less-one : (n : ℕ) → n ≡ suc n - 1
 less-one n = omega arith
 
 pub section-step : (form : Form) (n top : ℕ) (e : List ℕ) (r : Rest) → 0 < n
-    → section_demands form n top e r ≡ line_demands (wants_of form top e r) r ++ section_demands form (n - 1) top (e ++ defined_by form r) (next_line r)
+    → section_demands form n top e r ≡ line_demands aag_kind (wants_of form top e r) r ++ section_demands form (n - 1) top (e ++ defined_by form r) (next_line r)
 section-step form zero top e r h = absurd (omega arith)
-section-step form (suc n) top e r h = ap (λ k. line_demands (wants_of form top e r) r ++ section_demands form k top (e ++ defined_by form r) (next_line r)) (less-one n)
+section-step form (suc n) top e r h = ap (λ k. line_demands aag_kind (wants_of form top e r) r ++ section_demands form k top (e ++ defined_by form r) (next_line r)) (less-one n)
 
 pub lines-step : (n : ℕ) (r : Rest) → 0 < n → lines_of n r ≡ r ∷ lines_of (n - 1) (next_line r)
 lines-step zero r h = absurd (omega arith)
@@ -42,17 +44,17 @@ after-step (suc n) r h = ap (λ k. after_lines k (next_line r)) (less-one n)
 abbrev pub SameDefined : List ℕ → List ℕ → Type 0
 SameDefined d e = (v : ℕ) → defines d v ≡ defines e v
 
-defining-same : (r : Rest) (top : ℕ) (d e : List ℕ) (fs : List Rest) → SameDefined d e → want_demands r (defining top d) fs ≡ want_demands r (defining top e) fs
+defining-same : (r : Rest) (top : ℕ) (d e : List ℕ) (fs : List Rest) → SameDefined d e → want_demands aag_kind r (defining top d) fs ≡ want_demands aag_kind r (defining top e) fs
 defining-same r top d e [] same = refl
 defining-same r top d e (f ∷ fs) same =
     let n = number f in
     ap (λ t. demand f.at Number (is_some (natural_of (word f.bytes))) ∷ demand f.at Range (nat_le n (2 * top + 1)) ∷ demand f.at Defined (nat_eq (n % 2) 0 && nat_le 2 n && not t) ∷ []) (same (var n))
 
-line-same : (form : Form) (r : Rest) (top : ℕ) (d e : List ℕ) → SameDefined d e → line_demands (wants_of form top d r) r ≡ line_demands (wants_of form top e r) r
-line-same input r top d e same = ap (λ ds. (ds ++ []) ++ none_demands (drop 1 (fields r))) (defining-same r top d e (fields r) same)
-line-same latch r top d e same = ap (λ ds. (ds ++ wants_demands r (drop 1 (fields r)) (literal top ∷ optional (is_reset (number_at r 0) ∷ []) ∷ [])) ++ none_demands (drop 3 (fields r))) (defining-same r top d e (fields r) same)
+line-same : (form : Form) (r : Rest) (top : ℕ) (d e : List ℕ) → SameDefined d e → line_demands aag_kind (wants_of form top d r) r ≡ line_demands aag_kind (wants_of form top e r) r
+line-same input r top d e same = ap (λ ds. (ds ++ []) ++ none_demands aag_kind (drop 1 (fields r))) (defining-same r top d e (fields r) same)
+line-same latch r top d e same = ap (λ ds. (ds ++ wants_demands aag_kind r (drop 1 (fields r)) (literal aag_kind top ∷ optional (is_reset aag_kind (number_at r 0) ∷ []) ∷ [])) ++ none_demands aag_kind (drop 3 (fields r))) (defining-same r top d e (fields r) same)
 line-same plain r top d e same = refl
-line-same gate r top d e same = ap (λ ds. (ds ++ wants_demands r (drop 1 (fields r)) (literal top ∷ literal top ∷ [])) ++ none_demands (drop 3 (fields r))) (defining-same r top d e (fields r) same)
+line-same gate r top d e same = ap (λ ds. (ds ++ wants_demands aag_kind r (drop 1 (fields r)) (literal aag_kind top ∷ literal aag_kind top ∷ [])) ++ none_demands aag_kind (drop 3 (fields r))) (defining-same r top d e (fields r) same)
 
 same-append : (d e l : List ℕ) → SameDefined d e → SameDefined (d ++ l) (e ++ l)
 same-append d e l same v = defines-append d l v ∙ ap (λ t. t || defines l v) (same v) ∙ sym (defines-append e l v)
@@ -61,24 +63,24 @@ pub section-same : (form : Form) (n top : ℕ) (d e : List ℕ) (r : Rest) → S
 section-same form zero top d e r same = refl
 section-same form (suc n) top d e r same =
     ap (λ ds. ds ++ section_demands form n top (d ++ defined_by form r) (next_line r)) (line-same form r top d e same)
-    ∙ ap (λ ds. line_demands (wants_of form top e r) r ++ ds) (section-same form n top (d ++ defined_by form r) (e ++ defined_by form r) (next_line r) (same-append d e (defined_by form r) same))
+    ∙ ap (λ ds. line_demands aag_kind (wants_of form top e r) r ++ ds) (section-same form n top (d ++ defined_by form r) (e ++ defined_by form r) (next_line r) (same-append d e (defined_by form r) same))
 
 -- ---- a section, of which a line is read
 
-pub section-fails : (form : Form) (n top : ℕ) (e : List ℕ) (r : Rest) (fault : AagFault) (o : Unmet) → first_unmet (section_demands form n top e r) ≡ o → 0 < n
-    → Fails fault (first_unmet (line_demands (wants_of form top e r) r)) → Fails fault o
+pub section-fails : (form : Form) (n top : ℕ) (e : List ℕ) (r : Rest) (fault : Fault AagKind) (o : Unmet AagKind) → first_unmet (section_demands form n top e r) ≡ o → 0 < n
+    → Fails fault (first_unmet (line_demands aag_kind (wants_of form top e r) r)) → Fails fault o
 section-fails form n top e r fault o is h f =
-    subst (λ (x : Unmet). Fails fault x) (sym (ap first_unmet (section-step form n top e r h)) ∙ is)
-    (fails-front fault (line_demands (wants_of form top e r) r) (section_demands form (n - 1) top (e ++ defined_by form r) (next_line r)) f)
+    subst (λ (x : Unmet AagKind). Fails fault x) (sym (ap first_unmet (section-step form n top e r h)) ∙ is)
+    (fails-front fault (line_demands aag_kind (wants_of form top e r) r) (section_demands form (n - 1) top (e ++ defined_by form r) (next_line r)) f)
 
-pub section-goes : (form : Form) (n top top' : ℕ) (e e' : List ℕ) (r s : Rest) (o : Unmet) → first_unmet (section_demands form n top e r) ≡ o → 0 < n
-    → first_unmet (line_demands (wants_of form top e r) r) ≡ None → top' ≡ top → SameDefined (e ++ defined_by form r) e' → s ≡ next_line r
+pub section-goes : (form : Form) (n top top' : ℕ) (e e' : List ℕ) (r s : Rest) (o : Unmet AagKind) → first_unmet (section_demands form n top e r) ≡ o → 0 < n
+    → first_unmet (line_demands aag_kind (wants_of form top e r) r) ≡ None → top' ≡ top → SameDefined (e ++ defined_by form r) e' → s ≡ next_line r
     → first_unmet (section_demands form (n - 1) top' e' s) ≡ o
 section-goes form n top top' e e' r s o is h met same_top same next =
     ap (λ t. first_unmet (section_demands form (n - 1) t e' s)) same_top
     ∙ ap (λ x. first_unmet (section_demands form (n - 1) top e' x)) next
     ∙ sym (ap first_unmet (section-same form (n - 1) top (e ++ defined_by form r) e' (next_line r) same))
-    ∙ sym (first_unmet-behind (line_demands (wants_of form top e r) r) (section_demands form (n - 1) top (e ++ defined_by form r) (next_line r)) met)
+    ∙ sym (first_unmet-behind (line_demands aag_kind (wants_of form top e r) r) (section_demands form (n - 1) top (e ++ defined_by form r) (next_line r)) met)
     ∙ sym (ap first_unmet (section-step form n top e r h))
     ∙ is
 

@@ -1,71 +1,72 @@
 -- What is asked of a header, behind its magic word.
-use Rattle.std.proofs.Common.{◌≡◌, ℕ, Bool, true, false, cond, nat_eq, None, Some, List, [], ◌∷◌, ◌++◌, drop, get_or, refl, sym, ap, ◌∙◌, subst}
+use Rattle.std.proofs.Common.{◌≡◌, ℕ, true, false, cond, nat_eq, None, Some, List, [], ◌∷◌, ◌++◌, drop, get_or, refl, sym, ap, ◌∙◌, subst, arith}
 use Rattle.std.specs.List.{starts_with}
-use Rattle.text_words.specs.Text.{Rest, fields, later_fields, PassesField, PassesFields}
+use Rattle.text_words.specs.Text.{Rest, fields, PassesField, PassesFields, IsMagic}
 use Rattle.aig_ascii.specs.Demands.{Demand, demand}
 use Rattle.aig_ascii.specs.Fields.{missing_at, wanted, want_demands, wants_demands, none_demands}
-use Rattle.aig_ascii.specs.Header.{header_fields, header_wants, header_demands, sizes_of, within_limit}
-use Rattle.aig_ascii.specs.Reading.{first_unmet, Fails}
-use Rattle.aig_ascii.specs.declared.header.Sizes.{Sizes}
-use Rattle.aig_ascii.specs.declared.fault.AagFault.{AagFault}
-use Rattle.aig_ascii.specs.declared.fault.AagKind.TheVariants.{Header}
-use Rattle.aig_ascii.proofs.Unmet.{Unmet, or_else, first_unmet-append, first_unmet-behind, fails-front, fails-behind}
-use Rattle.aig_ascii.proofs.Wants.{wants_demands-same, field-there, drop-first}
+use Rattle.aig_ascii.specs.Header.{header_fields, header_wants, header_demands, magic_of, fits, sizes_of, within_limit}
+use Rattle.aig_ascii.specs.FirstFaults.{first_unmet, Fails}
+use Rattle.aig_ascii.specs.declared.header.Format.{Format}
+use Rattle.aig_ascii.specs.declared.header.Format.TheVariants.{Ascii, Binary}
+use Rattle.aig_ascii.specs.declared.fault.Fault.{Fault}
+use Rattle.aig_ascii.specs.declared.fault.SharedKind.TheVariants.{Header}
+use Rattle.aig_ascii.proofs.FirstFaults.{Unmet, first_unmet-behind, fails-front, met-front}
+use Rattle.aig_ascii.proofs.Wants.{wants_demands-same, field-there}
+use Rattle.aig_ascii.specs.declared.fault.SharedKind.{SharedKind}
 
-abbrev pub Starts : List ℕ → Rest → Type 0
-Starts magic r = starts_with nat_eq r.bytes (magic ++ 32 ∷ []) ≡ true
+abbrev pub Starts : Format → Rest → Type 0
+Starts format r = starts_with nat_eq r.bytes (magic_of format ++ 32 ∷ []) ≡ true
+
+pub magic-is : (format : Format) (bytes : List ℕ) → bytes ≡ magic_of format ++ 32 ∷ [] → IsMagic bytes (magic_of format)
+magic-is Ascii bytes e = record { some = omega arith; letters = refl; form = e }
+magic-is Binary bytes e = record { some = omega arith; letters = refl; form = e }
+
+pub starts-with : (format : Format) (r : Rest) (bytes : List ℕ) → bytes ≡ magic_of format ++ 32 ∷ [] → true ≡ starts_with nat_eq r.bytes bytes → Starts format r
+starts-with format r bytes e starts = ap (starts_with nat_eq r.bytes) (sym e) ∙ sym starts
 
 -- the numbers, and then M, and then no more fields
-abbrev behind_magic : (Sizes → Bool) → Rest → List Demand
-behind_magic fits r = wants_demands r (header_fields r) header_wants ++ demand (get_or (header_fields r) 0 r).at Header (fits (sizes_of r)) ∷ none_demands (drop 9 (header_fields r))
+abbrev behind_magic : {K : Type 0} (kind : SharedKind → K) → Format → Rest → List (Demand K)
+behind_magic kind format r = wants_demands kind r (header_fields r) (header_wants kind) ++ demand (get_or (header_fields r) 0 r).at (kind Header) (fits format (sizes_of r)) ∷ none_demands kind (drop 9 (header_fields r))
 
-past-magic : (magic : List ℕ) (fits : Sizes → Bool) (r : Rest) → Starts magic r → first_unmet (header_demands magic fits r) ≡ first_unmet (behind_magic fits r)
-past-magic magic fits r starts = ap (λ t. cond t (first_unmet (behind_magic fits r)) (Some (r.at, Header))) starts
+past-magic : {K : Type 0} (kind : SharedKind → K) (format : Format) (r : Rest) → Starts format r → first_unmet (header_demands kind format r) ≡ first_unmet (behind_magic kind format r)
+past-magic kind format r starts = ap (λ t. cond t (first_unmet (behind_magic kind format r)) (Some (r.at, kind Header))) starts
 
-wants-passed : (r s : Rest) → PassesField r s → wants_demands s (fields s) header_wants ≡ wants_demands r (header_fields r) header_wants
-wants-passed r s p = ap (λ fs. wants_demands s fs header_wants) p.others ∙ wants_demands-same r s (header_fields r) header_wants (ap missing_at p.end)
+wants-passed : {K : Type 0} (kind : SharedKind → K) (r s : Rest) → PassesField r s → wants_demands kind s (fields s) (header_wants kind) ≡ wants_demands kind r (header_fields r) (header_wants kind)
+wants-passed kind r s p = ap (λ fs. wants_demands kind s fs (header_wants kind)) p.others ∙ wants_demands-same kind r s (header_fields r) (header_wants kind) (ap (missing_at kind) p.end)
 
-pub met-front : (xs ys : List Demand) → first_unmet (xs ++ ys) ≡ None → first_unmet xs ≡ None
-met-front xs ys e =
-    let step : (o : Unmet) → or_else o (first_unmet ys) ≡ None → o ≡ None = λ o. elim o as (λ v. or_else v (first_unmet ys) ≡ None → v ≡ None) [
-      | None ↦ λ h. refl
-      | Some x ↦ λ h. h
-    ] in
-    step (first_unmet xs) (sym (first_unmet-append xs ys) ∙ e)
+pub header-numbers-fail : {K : Type 0} (kind : SharedKind → K) (e : Fault K) (format : Format) (r s : Rest) → Starts format r → PassesField r s → Fails e (first_unmet (wants_demands kind s (fields s) (header_wants kind)))
+    → Fails e (first_unmet (header_demands kind format r))
+header-numbers-fail {K} kind e format r s starts p f =
+    let numbers = wants_demands kind r (header_fields r) (header_wants kind) in
+    subst (λ (o : Unmet K). Fails e o) (sym (past-magic kind format r starts)) (fails-front e numbers _ (subst (λ ds. Fails e (first_unmet ds)) (wants-passed kind r s p) f))
 
-pub header-numbers-fail : (e : AagFault) (magic : List ℕ) (fits : Sizes → Bool) (r s : Rest) → Starts magic r → PassesField r s → Fails e (first_unmet (wants_demands s (fields s) header_wants))
-    → Fails e (first_unmet (header_demands magic fits r))
-header-numbers-fail e magic fits r s starts p f =
-    let numbers = wants_demands r (header_fields r) header_wants in
-    subst (λ (o : Unmet). Fails e o) (sym (past-magic magic fits r starts)) (fails-front e numbers _ (subst (λ ds. Fails e (first_unmet ds)) (wants-passed r s p) f))
-
-pub header-top-fails : (magic : List ℕ) (fits : Sizes → Bool) (r s : Rest) → Starts magic r → PassesField r s → first_unmet (wants_demands s (fields s) header_wants) ≡ None → fits (sizes_of r) ≡ false
-    → first_unmet (header_demands magic fits r) ≡ Some (s.at, Header)
-header-top-fails magic fits r s starts p met other =
-    let numbers = wants_demands r (header_fields r) header_wants in
-    let last = none_demands (drop 9 (header_fields r)) in
-    let first = field-there s (within_limit ∷ []) (met-front (want_demands s (wanted (within_limit ∷ [])) (fields s)) (wants_demands s (drop 1 (fields s)) (drop 1 header_wants)) met) in
+pub header-top-fails : {K : Type 0} (kind : SharedKind → K) (format : Format) (r s : Rest) → Starts format r → PassesField r s → first_unmet (wants_demands kind s (fields s) (header_wants kind)) ≡ None → fits format (sizes_of r) ≡ false
+    → first_unmet (header_demands kind format r) ≡ Some (s.at, kind Header)
+header-top-fails kind format r s starts p met other =
+    let numbers = wants_demands kind r (header_fields r) (header_wants kind) in
+    let last = none_demands kind (drop 9 (header_fields r)) in
+    let first = field-there kind s (within_limit kind ∷ []) (met-front (want_demands kind s (wanted (within_limit kind ∷ [])) (fields s)) (wants_demands kind s (drop 1 (fields s)) (drop 1 (header_wants kind))) met) in
     let here : (get_or (header_fields r) 0 r).at ≡ s.at = ap (λ fs. (get_or fs 0 r).at) (sym p.others ∙ first) in
-    past-magic magic fits r starts
-    ∙ first_unmet-behind numbers (demand (get_or (header_fields r) 0 r).at Header (fits (sizes_of r)) ∷ last) (sym (ap first_unmet (wants-passed r s p)) ∙ met)
-    ∙ ap (λ t. cond t (first_unmet last) (Some ((get_or (header_fields r) 0 r).at, Header))) other
-    ∙ ap (λ n. Some (n, Header)) here
+    past-magic kind format r starts
+    ∙ first_unmet-behind numbers (demand (get_or (header_fields r) 0 r).at (kind Header) (fits format (sizes_of r)) ∷ last) (sym (ap first_unmet (wants-passed kind r s p)) ∙ met)
+    ∙ ap (λ t. cond t (first_unmet last) (Some ((get_or (header_fields r) 0 r).at, kind Header))) other
+    ∙ ap (λ n. Some (n, kind Header)) here
 
 -- past the test of M
-past-top : (magic : List ℕ) (fits : Sizes → Bool) (r s t : Rest) → Starts magic r → PassesField r s → first_unmet (wants_demands s (fields s) header_wants) ≡ None → fits (sizes_of r) ≡ true → PassesFields 9 s t
-    → first_unmet (header_demands magic fits r) ≡ first_unmet (none_demands (fields t))
-past-top magic fits r s t starts p met room q =
-    let numbers = wants_demands r (header_fields r) header_wants in
-    let last = none_demands (drop 9 (header_fields r)) in
-    past-magic magic fits r starts
-    ∙ first_unmet-behind numbers (demand (get_or (header_fields r) 0 r).at Header (fits (sizes_of r)) ∷ last) (sym (ap first_unmet (wants-passed r s p)) ∙ met)
-    ∙ ap (λ t. cond t (first_unmet last) (Some ((get_or (header_fields r) 0 r).at, Header))) room
-    ∙ ap (λ fs. first_unmet (none_demands fs)) (sym (q.others ∙ ap (drop 9) p.others))
+past-top : {K : Type 0} (kind : SharedKind → K) (format : Format) (r s t : Rest) → Starts format r → PassesField r s → first_unmet (wants_demands kind s (fields s) (header_wants kind)) ≡ None → fits format (sizes_of r) ≡ true → PassesFields 9 s t
+    → first_unmet (header_demands kind format r) ≡ first_unmet (none_demands kind (fields t))
+past-top kind format r s t starts p met room q =
+    let numbers = wants_demands kind r (header_fields r) (header_wants kind) in
+    let last = none_demands kind (drop 9 (header_fields r)) in
+    past-magic kind format r starts
+    ∙ first_unmet-behind numbers (demand (get_or (header_fields r) 0 r).at (kind Header) (fits format (sizes_of r)) ∷ last) (sym (ap first_unmet (wants-passed kind r s p)) ∙ met)
+    ∙ ap (λ t. cond t (first_unmet last) (Some ((get_or (header_fields r) 0 r).at, kind Header))) room
+    ∙ ap (λ fs. first_unmet (none_demands kind fs)) (sym (q.others ∙ ap (drop 9) p.others))
 
-pub header-end-fails : (e : AagFault) (magic : List ℕ) (fits : Sizes → Bool) (r s t : Rest) → Starts magic r → PassesField r s → first_unmet (wants_demands s (fields s) header_wants) ≡ None
-    → fits (sizes_of r) ≡ true → PassesFields 9 s t → Fails e (first_unmet (none_demands (fields t))) → Fails e (first_unmet (header_demands magic fits r))
-header-end-fails e magic fits r s t starts p met room q f = subst (λ (o : Unmet). Fails e o) (sym (past-top magic fits r s t starts p met room q)) f
+pub header-end-fails : {K : Type 0} (kind : SharedKind → K) (e : Fault K) (format : Format) (r s t : Rest) → Starts format r → PassesField r s → first_unmet (wants_demands kind s (fields s) (header_wants kind)) ≡ None
+    → fits format (sizes_of r) ≡ true → PassesFields 9 s t → Fails e (first_unmet (none_demands kind (fields t))) → Fails e (first_unmet (header_demands kind format r))
+header-end-fails {K} kind e format r s t starts p met room q f = subst (λ (o : Unmet K). Fails e o) (sym (past-top kind format r s t starts p met room q)) f
 
-pub header-met : (magic : List ℕ) (fits : Sizes → Bool) (r s t : Rest) → Starts magic r → PassesField r s → first_unmet (wants_demands s (fields s) header_wants) ≡ None → fits (sizes_of r) ≡ true
-    → PassesFields 9 s t → first_unmet (none_demands (fields t)) ≡ None → first_unmet (header_demands magic fits r) ≡ None
-header-met magic fits r s t starts p met room q none = past-top magic fits r s t starts p met room q ∙ none
+pub header-met : {K : Type 0} (kind : SharedKind → K) (format : Format) (r s t : Rest) → Starts format r → PassesField r s → first_unmet (wants_demands kind s (fields s) (header_wants kind)) ≡ None → fits format (sizes_of r) ≡ true
+    → PassesFields 9 s t → first_unmet (none_demands kind (fields t)) ≡ None → first_unmet (header_demands kind format r) ≡ None
+header-met kind format r s t starts p met room q none = past-top kind format r s t starts p met room q ∙ none

@@ -1,7 +1,9 @@
-pub mod Answering
 pub mod Body
+pub mod CircuitsAndFaults
 pub mod Counted
 pub mod Defined
+pub mod FirstFaults
+pub mod HeaderLimits
 pub mod Heads
 pub mod NameRanks
 pub mod RightLines
@@ -11,12 +13,13 @@ pub mod RightSymbols
 pub mod Slots
 pub mod SpelledBody
 pub mod SpelledHeader
+pub mod SpelledItems
 pub mod SpelledLines
 pub mod SpelledSections
 pub mod SpelledSymbols
 pub mod SymbolLines
 pub mod Texts
-pub mod Unmet
+pub mod Uses
 pub mod Wants
 pub mod WholeText
 pub mod WrittenBack

@@ -1,32 +1,26 @@
 -- Parts whose demands are met are a circuit, but for the order of their gates.
-use Rattle.std.proofs.Common.{◌≡◌, ◌≢◌, ℕ, zero, suc, ◌+◌, ◌<◌, ◌≤◌, Bool, true, nat_lt, codes, None, List, [], ◌∷◌, ◌++◌, map, All, AllPairs, length, refl, sym, ap, ◌∙◌, subst, append_assoc, arith, ◌⊎◌}
+use Rattle.std.proofs.Common.{◌≡◌, ℕ, zero, suc, true, None, List, [], ◌++◌, map, length, refl, sym, ap, ◌∙◌, subst, arith}
 use Rattle.std.specs.List.{AllByRecursion}
-use Rattle.std.proofs.lemmas.Bool.Decides.{nat_tests}
 use Rattle.std.proofs.lemmas.List.{map-append, length-map}
 use Rattle.std.proofs.lemmas.List.Elements.{All-from_recursion}
-use Rattle.text_words.proofs.Written.{each-append}
-use Rattle.aig_model.specs.Literal.{var}
-use Rattle.aig_model.specs.WellFormed.{IsInRange, IsDefining, IsKnown, IsSized, AreNames, Exists, IsName, latch_lits, left_sides, latch_literals, gate_literals, next_lits, gate_inputs, literals, definers, uses}
-use Rattle.aig_model.specs.declared.parts.Parts.{Parts}
-use Rattle.aig_model.specs.declared.parts.Place.{Place}
-use Rattle.aig_model.specs.declared.parts.Place.TheVariants as places
-use Rattle.aig_model.specs.declared.parts.Named.{Named}
+use Rattle.text_words.proofs.Written.{each-append, each-weaker}
+use Rattle.aig_model.specs.WellFormed.{IsInRange, IsDefining, IsKnown, IsSized, AreNames, left_sides, latch_literals, gate_literals, next_lits, literals, definers, uses}
 use Rattle.gate_order.specs.GateOrder.{DefineApart}
 use Rattle.gate_order.specs.OrderLaws.{IsUnordered}
 use Rattle.gate_order.proofs.OrderedGates.{apart_from_defined}
 use Rattle.text_words.specs.Text.{Rest, number, lines_of, all_lines, whole}
 use Rattle.aig_ascii.specs.Header.{AreFew, header_demands}
-use Rattle.aig_ascii.specs.Sections.{Form, input, latch, plain, gate, number_at, is_known, section_demands, section_uses, use_demands, latch_of, gate_of, lits_of}
-use Rattle.aig_ascii.specs.Symbols.{symbol_lines, symbol_demands, symbols_of, exists_in}
-use Rattle.aig_ascii.specs.Aag.{Layout, fits, layout_of, parts_in, uses_in, body_demands, demands}
+use Rattle.aig_ascii.specs.Sections.{input, latch, plain, gate, number_at, is_known, section_demands, section_uses, use_demands, latch_of, gate_of, lits_of}
+use Rattle.aig_ascii.specs.Symbols.{symbol_lines, symbol_demands}
+use Rattle.aig_ascii.specs.Aag.{Layout, layout_of, parts_in, uses_in, body_demands, demands}
 use Rattle.aig_ascii.specs.ReadSections.{behind_header}
-use Rattle.aig_ascii.specs.Reading.{first_unmet}
-use Rattle.aig_ascii.proofs.Heads.{met-front}
+use Rattle.aig_ascii.specs.FirstFaults.{first_unmet}
 use Rattle.aig_ascii.proofs.Body.{latch_lits-lines}
-use Rattle.aig_ascii.proofs.Slots.{below}
-use Rattle.aig_ascii.proofs.RightLines.{met-rest}
 use Rattle.aig_ascii.proofs.RightSections.{Fresh, fresh-append, fresh-range, fresh-defining, fresh-once, left_sides-lines, right-inputs, right-latches, right-lits, right-gates, right-uses, known-literal}
-use Rattle.aig_ascii.proofs.RightSymbols.{RightSymbol, right-symbols, names-once}
+use Rattle.aig_ascii.proofs.RightSymbols.{HasSizes, right-names}
+use Rattle.aig_ascii.specs.Kinds.{aag_kind}
+use Rattle.aig_ascii.specs.declared.header.Format.TheVariants.{Ascii}
+use Rattle.aig_ascii.proofs.FirstFaults.{met-front, met-rest}
 
 -- ---- how many items there are
 
@@ -50,26 +44,16 @@ parts-sized l few = record {
 
 -- ---- names
 
-exists : (l : Layout) (p : Place) → exists_in l.sizes p ≡ true → Exists (parts_in l) p
-exists l (places.Input k) e = omega (arith, length-items (λ line. number_at line 0) l.sizes.inputs l.inputs, below k l.sizes.inputs e)
-exists l (places.Latch k) e = omega (arith, length-items latch_of l.sizes.latches l.latches, below k l.sizes.latches e)
-exists l (places.Output k) e = omega (arith, length-items (λ line. number_at line 0) l.sizes.outputs l.outputs, below k l.sizes.outputs e)
-exists l (places.Bad k) e = omega (arith, length-items (λ line. number_at line 0) l.sizes.bads l.bads, below k l.sizes.bads e)
-exists l (places.Constraint k) e = omega (arith, length-items (λ line. number_at line 0) l.sizes.constraints l.constraints, below k l.sizes.constraints e)
-
-each-weaker : {A : Type 0} (P Q : A → Type 0) (xs : List A) → ((x : A) → P x → Q x) → AllByRecursion P xs → AllByRecursion Q xs
-each-weaker P Q [] f all = tt
-each-weaker P Q (x ∷ xs) f all = (f x all.0, each-weaker P Q xs f all.1)
-
-names-right : (l : Layout) → first_unmet (symbol_demands l.sizes [] (symbol_lines (all_lines l.symbols))) ≡ None → AreNames (parts_in l)
+names-right : (l : Layout) → first_unmet (symbol_demands aag_kind l.sizes [] (symbol_lines (all_lines l.symbols))) ≡ None → AreNames (parts_in l)
 names-right l m =
-    let names = symbols_of (symbol_lines (all_lines l.symbols)) in
-    let right = right-symbols l.sizes [] (symbol_lines (all_lines l.symbols)) m in
-    record {
-      exist = All-from_recursion (λ (n : Named). Exists (parts_in l) n.place) names (each-weaker (RightSymbol l.sizes) (λ (n : Named). Exists (parts_in l) n.place) names (λ n s. exists l n.place s.exists) right.each);
-      once = names-once [] names right.fresh;
-      forms = All-from_recursion (λ (n : Named). IsName n.name) names (each-weaker (RightSymbol l.sizes) (λ (n : Named). IsName n.name) names (λ n s. s.name) right.each);
-    }
+    let sizes : HasSizes l.sizes (parts_in l) = record {
+      inputs = length-items (λ line. number_at line 0) l.sizes.inputs l.inputs;
+      latches = length-items latch_of l.sizes.latches l.latches;
+      outputs = length-items (λ line. number_at line 0) l.sizes.outputs l.outputs;
+      bads = length-items (λ line. number_at line 0) l.sizes.bads l.bads;
+      constraints = length-items (λ line. number_at line 0) l.sizes.constraints l.constraints;
+    } in
+    right-names aag_kind l.sizes (parts_in l) (symbol_lines (all_lines l.symbols)) sizes refl m
 
 -- ---- the whole
 
@@ -109,7 +93,7 @@ parts-unordered l few m =
     let fourth = section_demands plain s.bads s.top both l.bads in
     let fifth = section_demands plain s.constraints s.top both l.constraints in
     let sixth = section_demands gate s.gates s.top both l.gates in
-    let symbols = symbol_demands s [] (symbol_lines (all_lines l.symbols)) in
+    let symbols = symbol_demands aag_kind s [] (symbol_lines (all_lines l.symbols)) in
     let checked = use_demands (definers c) (uses_in l) in
     let body = met-front (body_demands l) (symbols ++ checked) m in
     let behind = met-rest (body_demands l) (symbols ++ checked) m in
@@ -148,17 +132,17 @@ parts-unordered l few m =
       in_range = All-from_recursion R (literals c) range;
       defining = All-from_recursion IsDefining (definers c) (fresh-defining s.top [] (definers c) fresh);
       once = fresh-once s.top [] (definers c) fresh;
-      known = All-from_recursion (IsKnown c) (uses c) (each-weaker (λ n. is_known (definers c) n ≡ true) (IsKnown c) (uses c) (known-literal (definers c)) used);
+      known = All-from_recursion (IsKnown c) (uses c) (each-weaker (λ n. is_known (definers c) n ≡ true) (IsKnown c) (known-literal (definers c)) (uses c) used);
       names = names-right l (met-front symbols checked behind);
     }
 
 pub text-unordered : (text : List ℕ) → AreFew (layout_of text).sizes → first_unmet (demands text) ≡ None → IsUnordered (parts_in (layout_of text))
-text-unordered text few m = parts-unordered (layout_of text) few (met-rest (header_demands (codes "aag") fits (whole text)) (behind_header (layout_of text)) m)
+text-unordered text few m = parts-unordered (layout_of text) few (met-rest (header_demands aag_kind Ascii (whole text)) (behind_header (layout_of text)) m)
 
 pub text-apart : (text : List ℕ) → first_unmet (demands text) ≡ None → DefineApart (parts_in (layout_of text)).gates
 text-apart text m =
     let l = layout_of text in
-    let behind = met-rest (header_demands (codes "aag") fits (whole text)) (behind_header l) m in
+    let behind = met-rest (header_demands aag_kind Ascii (whole text)) (behind_header l) m in
     let fresh = parts-fresh l (met-front (body_demands l) _ behind) in
     let lits = definers (parts_in l) in
     apart_from_defined (parts_in l) (All-from_recursion IsDefining lits (fresh-defining l.sizes.top [] lits fresh)) (fresh-once l.sizes.top [] lits fresh)

@@ -1,23 +1,23 @@
 -- What sections say whose demands are met.
-use Rattle.std.proofs.Common.{◌≡◌, ◌≢◌, ℕ, zero, suc, ◌+◌, ◌<◌, ◌≤◌, Bool, true, false, cond, ◌||◌, nat_eq, None, List, [], ◌∷◌, ◌++◌, map, All, AllPairs, Contains, length, get_or, refl, sym, ap, ◌∙◌, subst, inl, inr, append_assoc, arith, ◌⊎◌}
-use Rattle.std.specs.List.{AllByRecursion, flat_map}
+use Rattle.std.proofs.Common.{◌≡◌, ◌≢◌, ℕ, zero, suc, Bool, true, false, ◌||◌, nat_eq, None, List, [], ◌∷◌, ◌++◌, map, AllPairs, Contains, refl, sym, ap, ◌∙◌, subst, inl, inr, append_assoc, arith, ◌⊎◌}
+use Rattle.std.specs.List.{AllByRecursion}
 use Rattle.std.proofs.lemmas.Bool.Decides.{nat_tests}
 use Rattle.std.proofs.lemmas.List.{map-append, append-nil}
 use Rattle.std.proofs.lemmas.List.Elements.{All-from_recursion}
 use Rattle.std.proofs.lemmas.List.Kept.{AllPairs-cons}
 use Rattle.aig_model.specs.Literal.{var}
-use Rattle.aig_model.specs.WellFormed.{IsInRange, IsDefining, IsKnown, latch_lits, left_sides, latch_literals, gate_literals, next_lits, gate_inputs, defined}
-use Rattle.aig_model.specs.declared.parts.Parts.{Parts}
+use Rattle.aig_model.specs.WellFormed.{IsInRange, IsDefining, left_sides, latch_literals, gate_literals, next_lits, gate_inputs}
 use Rattle.aig_model.proofs.Elements.{Contains-head, Contains-later}
-use Rattle.text_words.specs.Text.{Rest, number, fields, next_line, lines_of}
-use Rattle.aig_ascii.specs.Demands.{Demand, demand}
+use Rattle.text_words.specs.Text.{Rest, number, next_line, lines_of}
+use Rattle.aig_ascii.specs.Demands.{demand}
 use Rattle.aig_ascii.specs.Fields.{line_demands}
-use Rattle.aig_ascii.specs.Sections.{Form, input, latch, plain, gate, number_at, defines, is_known, wants_of, defined_by, used_by, section_demands, section_uses, use_demands, latch_of, gate_of, lits_of}
-use Rattle.aig_ascii.specs.Reading.{first_unmet}
+use Rattle.aig_ascii.specs.Sections.{input, latch, plain, gate, number_at, defines, is_known, wants_of, used_by, section_demands, section_uses, use_demands, latch_of, gate_of, lits_of}
+use Rattle.aig_ascii.specs.FirstFaults.{first_unmet}
 use Rattle.aig_ascii.specs.declared.fault.AagKind.TheVariants.{Undefined}
 use Rattle.aig_ascii.proofs.Defined.{defines-append}
-use Rattle.aig_ascii.proofs.Heads.{met-front}
-use Rattle.aig_ascii.proofs.RightLines.{met-rest, met-first, Defines, right-input, right-latch, right-plain, right-gate}
+use Rattle.aig_ascii.proofs.RightLines.{Defines, right-input, right-latch, right-plain, right-gate}
+use Rattle.aig_ascii.specs.Kinds.{aag_kind}
+use Rattle.aig_ascii.proofs.FirstFaults.{met-front, met-rest, met-first}
 
 -- ---- literals of which each defines a variable for the first time
 
@@ -66,7 +66,7 @@ left_sides-lines (r ∷ rs) = ap (λ ls. number_at r 0 ∷ ls) (left_sides-lines
 pub right-inputs : (n top : ℕ) (e : List ℕ) (r : Rest) → first_unmet (section_demands input n top e r) ≡ None → Fresh top e (lits_of n r)
 right-inputs zero top e r m = tt
 right-inputs (suc n) top e r m =
-    let line = line_demands (wants_of input top e r) r in
+    let line = line_demands aag_kind (wants_of input top e r) r in
     let more = section_demands input n top (e ++ number_at r 0 ∷ []) (next_line r) in
     (right-input top e r (met-front line more m), right-inputs n top (e ++ number_at r 0 ∷ []) (next_line r) (met-rest line more m))
 
@@ -78,7 +78,7 @@ pub record RightLatches (n top : ℕ) (e : List ℕ) (r : Rest) : Type 0 where
 pub right-latches : (n top : ℕ) (e : List ℕ) (r : Rest) → first_unmet (section_demands latch n top e r) ≡ None → RightLatches n top e r
 right-latches zero top e r m = record { fresh = tt; range = tt; uses = refl }
 right-latches (suc n) top e r m =
-    let line = line_demands (wants_of latch top e r) r in
+    let line = line_demands aag_kind (wants_of latch top e r) r in
     let more = section_demands latch n top (e ++ number_at r 0 ∷ []) (next_line r) in
     let here = right-latch top e r (met-front line more m) in
     let rest = right-latches n top (e ++ number_at r 0 ∷ []) (next_line r) (met-rest line more m) in
@@ -95,7 +95,7 @@ pub record RightLits (n top : ℕ) (r : Rest) : Type 0 where
 pub right-lits : (n top : ℕ) (e : List ℕ) (r : Rest) → first_unmet (section_demands plain n top e r) ≡ None → RightLits n top r
 right-lits zero top e r m = record { range = tt; uses = refl }
 right-lits (suc n) top e r m =
-    let line = line_demands (wants_of plain top e r) r in
+    let line = line_demands aag_kind (wants_of plain top e r) r in
     let more = section_demands plain n top (e ++ []) (next_line r) in
     let here = right-plain top e r (met-front line more m) in
     let rest = right-lits n top (e ++ []) (next_line r) (met-rest line more m) in
@@ -112,7 +112,7 @@ pub record RightGates (n top : ℕ) (e : List ℕ) (r : Rest) : Type 0 where
 pub right-gates : (n top : ℕ) (e : List ℕ) (r : Rest) → first_unmet (section_demands gate n top e r) ≡ None → RightGates n top e r
 right-gates zero top e r m = record { fresh = tt; range = tt; uses = refl }
 right-gates (suc n) top e r m =
-    let line = line_demands (wants_of gate top e r) r in
+    let line = line_demands aag_kind (wants_of gate top e r) r in
     let more = section_demands gate n top (e ++ number_at r 0 ∷ []) (next_line r) in
     let here = right-gate top e r (met-front line more m) in
     let rest = right-gates n top (e ++ number_at r 0 ∷ []) (next_line r) (met-rest line more m) in

@@ -1,25 +1,29 @@
 -- What the symbols say whose demands are met.
-use Rattle.std.proofs.Common.{◌≡◌, ◌≢◌, ℕ, zero, suc, ◌+◌, ◌<◌, ◌≤◌, Bool, true, false, cond, not, ◌&&◌, ◌||◌, eqb, nat_eq, Option, None, Some, List, [], ◌∷◌, ◌++◌, map, All, AllPairs, Contains, length, get_or, refl, sym, ap, ◌∙◌, subst, inl, inr, append_assoc, arith, option_and_then}
+use Rattle.std.proofs.Common.{◌≡◌, ◌≢◌, ℕ, zero, suc, ◌+◌, ◌<◌, Bool, true, false, cond, not, ◌&&◌, ◌||◌, eqb, nat_eq, Option, None, Some, List, [], ◌∷◌, ◌++◌, AllPairs, Contains, length, get_or, refl, sym, ap, ◌∙◌, subst, inl, inr, arith, option_and_then}
 use Rattle.std.specs.Option.{option_to_list}
-use Rattle.std.specs.List.{AllByRecursion, filter_map}
+use Rattle.std.specs.List.{AllByRecursion}
 use Rattle.std.specs.Char.{is_ascii_digit}
 use Rattle.std.proofs.lemmas.Bool.Decides.{nat_tests}
 use Rattle.std.proofs.lemmas.List.Elements.{All-from_recursion}
 use Rattle.std.proofs.lemmas.List.Kept.{AllPairs-cons}
 use Rattle.text_words.specs.Numbers.{natural_of}
-use Rattle.aig_model.specs.WellFormed.{IsName}
+use Rattle.aig_model.specs.WellFormed.{AreNames, Exists, IsName}
+use Rattle.aig_model.specs.declared.parts.Parts.{Parts}
 use Rattle.aig_model.specs.declared.parts.Place.{Place}
 use Rattle.aig_model.specs.declared.parts.Place.TheVariants as places
 use Rattle.aig_model.specs.declared.parts.Named.{Named}
 use Rattle.aig_model.proofs.Elements.{Contains-cons_cases, Contains-nil}
+use Rattle.text_words.proofs.Written.{each-weaker}
 use Rattle.text_words.specs.Text.{Rest, ends_line, line_bytes, leading_digits, behind_digits}
 use Rattle.aig_ascii.specs.Demands.{demand}
 use Rattle.aig_ascii.specs.Symbols.{is_empty, symbol_on, symbol_demands, symbols_of, place_at, name_behind, named, symbol_of, exists_in, same_place, is_named, is_right}
-use Rattle.aig_ascii.specs.Reading.{first_unmet}
+use Rattle.aig_ascii.specs.FirstFaults.{first_unmet}
 use Rattle.aig_ascii.specs.declared.header.Sizes.{Sizes}
-use Rattle.aig_ascii.specs.declared.fault.AagKind.TheVariants.{Symbol}
-use Rattle.aig_ascii.proofs.Slots.{is_named-push}
-use Rattle.aig_ascii.proofs.RightLines.{met-first, both-met, not-met}
+use Rattle.aig_ascii.specs.declared.fault.SharedKind.TheVariants.{Symbol}
+use Rattle.aig_ascii.proofs.Slots.{below, is_named-push}
+use Rattle.aig_ascii.proofs.RightLines.{both-met, not-met}
+use Rattle.aig_ascii.specs.declared.fault.SharedKind.{SharedKind}
+use Rattle.aig_ascii.proofs.FirstFaults.{met-first}
 
 -- ---- the bytes of a line
 
@@ -134,16 +138,16 @@ pub record RightSymbols (sizes : Sizes) (earlier names : List Named) : Type 0 wh
   pub each : AllByRecursion (RightSymbol sizes) names
   pub fresh : FreshNames earlier names
 
-pub right-symbols : (sizes : Sizes) (earlier : List Named) (lines : List Rest) → first_unmet (symbol_demands sizes earlier lines) ≡ None → RightSymbols sizes earlier (symbols_of lines)
-right-symbols sizes earlier [] m = record { each = tt; fresh = tt }
-right-symbols sizes earlier (r ∷ rs) m =
+pub right-symbols : {K : Type 0} (kind : SharedKind → K) (sizes : Sizes) (earlier : List Named) (lines : List Rest) → first_unmet (symbol_demands kind sizes earlier lines) ≡ None → RightSymbols sizes earlier (symbols_of lines)
+right-symbols kind sizes earlier [] m = record { each = tt; fresh = tt }
+right-symbols kind sizes earlier (r ∷ rs) m =
     let G : Type 0 = RightSymbols sizes earlier (symbols_of (r ∷ rs)) in
-    let step : (o : Option Named) → symbol_on r ≡ o → first_unmet (demand r.at Symbol (is_right sizes earlier o) ∷ symbol_demands sizes (earlier ++ option_to_list o) rs) ≡ None → G = λ o. elim o as (λ v. symbol_on r ≡ v → first_unmet (demand r.at Symbol (is_right sizes earlier v) ∷ symbol_demands sizes (earlier ++ option_to_list v) rs) ≡ None → G) [
+    let step : (o : Option Named) → symbol_on r ≡ o → first_unmet (demand r.at (kind Symbol) (is_right sizes earlier o) ∷ symbol_demands kind sizes (earlier ++ option_to_list o) rs) ≡ None → G = λ o. elim o as (λ v. symbol_on r ≡ v → first_unmet (demand r.at (kind Symbol) (is_right sizes earlier v) ∷ symbol_demands kind sizes (earlier ++ option_to_list v) rs) ≡ None → G) [
       | None ↦ λ is h. cc
       | Some s ↦ λ is h.
-          let both = met-first (demand r.at Symbol (is_right sizes earlier (Some s))) (symbol_demands sizes (earlier ++ s ∷ []) rs) h in
+          let both = met-first (demand r.at (kind Symbol) (is_right sizes earlier (Some s))) (symbol_demands kind sizes (earlier ++ s ∷ []) rs) h in
           let right = both-met (exists_in sizes s.place) (not (is_named earlier s.place)) both.0 in
-          let rest = right-symbols sizes (earlier ++ s ∷ []) rs both.1 in
+          let rest = right-symbols kind sizes (earlier ++ s ∷ []) rs both.1 in
           let all : RightSymbols sizes earlier (s ∷ symbols_of rs) = record {
             each = (record { exists = right.0; name = right-name s.name (symbol-name (line_bytes r.bytes) s is (in-line r.bytes)) }, rest.each);
             fresh = (not-met (is_named earlier s.place) right.1, rest.fresh);
@@ -181,3 +185,31 @@ pub names-once : (earlier ns : List Named) → FreshNames earlier ns → AllPair
 names-once earlier [] f = λ i j d order within. absurd (omega arith)
 names-once earlier (n ∷ ns) f =
     AllPairs-cons (λ (m n : Named). m.place ≢ n.place) n ns (All-from_recursion (λ (x : Named). n.place ≢ x.place) ns (names-apart n (earlier ++ n ∷ []) ns f.1 (named-last earlier n))) (names-once (earlier ++ n ∷ []) ns f.1)
+
+-- ---- the names of parts
+
+-- the parts have so many items
+pub record HasSizes (s : Sizes) (c : Parts) : Type 0 where
+  pub inputs : length c.inputs ≡ s.inputs
+  pub latches : length c.latches ≡ s.latches
+  pub outputs : length c.outputs ≡ s.outputs
+  pub bads : length c.bads ≡ s.bads
+  pub constraints : length c.constraints ≡ s.constraints
+
+item-exists : (s : Sizes) (c : Parts) (p : Place) → HasSizes s c → exists_in s p ≡ true → Exists c p
+item-exists s c (places.Input k) has e = omega (arith, has.inputs, below k s.inputs e)
+item-exists s c (places.Latch k) has e = omega (arith, has.latches, below k s.latches e)
+item-exists s c (places.Output k) has e = omega (arith, has.outputs, below k s.outputs e)
+item-exists s c (places.Bad k) has e = omega (arith, has.bads, below k s.bads e)
+item-exists s c (places.Constraint k) has e = omega (arith, has.constraints, below k s.constraints e)
+
+-- symbols of which all is met name items that there are, each once
+pub right-names : {K : Type 0} (kind : SharedKind → K) (s : Sizes) (c : Parts) (lines : List Rest) → HasSizes s c → c.names ≡ symbols_of lines → first_unmet (symbol_demands kind s [] lines) ≡ None → AreNames c
+right-names kind s c lines has names m =
+    let right = right-symbols kind s [] lines m in
+    let each : AllByRecursion (RightSymbol s) c.names = subst (λ (ns : List Named). AllByRecursion (RightSymbol s) ns) (sym names) right.each in
+    record {
+      exist = All-from_recursion (λ (n : Named). Exists c n.place) c.names (each-weaker (RightSymbol s) (λ (n : Named). Exists c n.place) (λ n x. item-exists s c n.place has x.exists) c.names each);
+      once = names-once [] c.names (subst (λ (ns : List Named). FreshNames [] ns) (sym names) right.fresh);
+      forms = All-from_recursion (λ (n : Named). IsName n.name) c.names (each-weaker (RightSymbol s) (λ (n : Named). IsName n.name) (λ n x. x.name) c.names each);
+    }

@@ -1,5 +1,6 @@
 -- The header of a text that was written.
-use Rattle.std.proofs.Common.{◌≡◌, ◌≢◌, ℕ, zero, suc, inl, inr, ◌+◌, ◌<◌, ◌≤◌, Bool, true, false, cond, IsTrue, nat_eq, nat_le, codes, List, [], ◌∷◌, ◌++◌, length, get_or, refl, sym, ap, ◌∙◌, subst, arith, All, length-append}
+use Rattle.std.proofs.Common.{◌≡◌, ℕ, suc, inl, inr, ◌+◌, ◌<◌, ◌≤◌, Bool, true, false, cond, IsTrue, nat_eq, nat_le, List, [], ◌∷◌, ◌++◌, length, get_or, drop, refl, sym, ap, ◌∙◌, subst, arith, All, length-append}
+use Rattle.std.specs.List.{AllByRecursion, starts_with}
 use Rattle.std.proofs.lemmas.Bool.{cases_eq}
 use Rattle.std.proofs.lemmas.Bool.Decides.{nat_tests}
 use Rattle.std.proofs.lemmas.List.{length-map}
@@ -10,16 +11,19 @@ use Rattle.aig_model.specs.WellFormed.{limit, latch_lits, left_sides, definers, 
 use Rattle.aig_model.specs.declared.parts.Latch.{Latch}
 use Rattle.aig_model.specs.declared.parts.AndGate.{AndGate}
 use Rattle.aig_model.specs.declared.parts.Parts.{Parts}
-use Rattle.text_words.specs.Text.{Rest}
+use Rattle.text_words.specs.Text.{Rest, later_fields}
 use Rattle.aig_ascii.specs.Demands.{AllMet}
-use Rattle.aig_ascii.specs.Fields.{optional, wants_demands}
-use Rattle.aig_ascii.specs.Header.{header_fields, sizes_in, within_limit, no_liveness, header_wants, header_demands}
-use Rattle.aig_ascii.specs.Aag.{fits}
+use Rattle.aig_ascii.specs.Fields.{Want, optional, wants_demands}
+use Rattle.aig_ascii.specs.Header.{header_fields, sizes_in, within_limit, no_liveness, header_wants, magic_of, fits, header_demands}
+use Rattle.aig_ascii.specs.declared.header.Format.{Format}
+use Rattle.aig_ascii.specs.declared.header.Format.TheVariants.{Ascii, Binary}
+use Rattle.aig_ascii.specs.declared.fault.SharedKind.{SharedKind}
 use Rattle.aig_ascii.specs.declared.header.Sizes.{Sizes}
 use Rattle.aig_ascii.specs.CircuitText.{last_sizes, header_numbers}
 use Rattle.gate_order.specs.PlaceOrder.{times}
 use Rattle.gate_order.proofs.Times.{times-cons, times-from_apart, All-times, equal_number, few_below}
-use Rattle.aig_ascii.proofs.SpelledLines.{Spell, AreSmall, Fit, tail_of, behind-spell, numbers-are, wants-fit, none-fit, met-append}
+use Rattle.aig_ascii.proofs.SpelledLines.{IsGraphic, Spell, AreSmall, Fit, tail_of, behind-spell, numbers-are, wants-fit, none-fit}
+use Rattle.aig_ascii.proofs.FirstFaults.{met-append}
 
 -- the literals that define are among the literals
 lits-among : (P : ℕ → Type 0) (latches : List Latch) → All P (latch_literals latches) → All P (latch_lits latches)
@@ -70,6 +74,14 @@ few_definers c is =
     omega (arith, few, size)
 
 -- ---- the last sizes
+abbrev last_wants : {K : Type 0} → (SharedKind → K) → List (Want K)
+last_wants kind =
+    optional (within_limit kind ∷ [])
+    ∷ optional (within_limit kind ∷ [])
+    ∷ optional (within_limit kind ∷ no_liveness kind ∷ [])
+    ∷ optional (within_limit kind ∷ no_liveness kind ∷ [])
+    ∷ []
+
 module _ (bads constraints : ℕ) where
   last-first : get_or (last_sizes bads constraints) 0 0 ≡ bads
   last-first = by_tests (nat_eq constraints 0) (nat_eq bads 0) refl
@@ -89,9 +101,8 @@ module _ (bads constraints : ℕ) where
       by_tests false true e = refl
       by_tests false false e = refl
 
-  last-fit : bads ≤ limit → constraints ≤ limit
-      → Fit (optional (within_limit ∷ []) ∷ optional (within_limit ∷ []) ∷ optional (within_limit ∷ no_liveness ∷ []) ∷ optional (within_limit ∷ no_liveness ∷ []) ∷ []) (last_sizes bads constraints)
-  last-fit few_bads few_constraints = by_tests (nat_eq constraints 0) (nat_eq bads 0)
+  last-fit : {K : Type 0} (kind : SharedKind → K) → bads ≤ limit → constraints ≤ limit → Fit (last_wants kind) (last_sizes bads constraints)
+  last-fit kind few_bads few_constraints = by_tests (nat_eq constraints 0) (nat_eq bads 0)
     where
       pass_bads : IsTrue (nat_le bads limit)
       pass_bads = grind (arith, nat_tests)
@@ -99,7 +110,7 @@ module _ (bads constraints : ℕ) where
       pass_constraints : IsTrue (nat_le constraints limit)
       pass_constraints = grind (arith, nat_tests)
 
-      by_tests : (s t : Bool) → Fit (optional (within_limit ∷ []) ∷ optional (within_limit ∷ []) ∷ optional (within_limit ∷ no_liveness ∷ []) ∷ optional (within_limit ∷ no_liveness ∷ []) ∷ []) (cond s (cond t [] (bads ∷ [])) (bads ∷ constraints ∷ []))
+      by_tests : (s t : Bool) → Fit (last_wants kind) (cond s (cond t [] (bads ∷ [])) (bads ∷ constraints ∷ []))
       by_tests true true = (refl, (refl, (refl, (refl, tt))))
       by_tests true false = ((pass_bads, tt), (refl, (refl, (refl, tt))))
       by_tests false true = ((pass_bads, tt), ((pass_constraints, tt), (refl, (refl, tt))))
@@ -129,31 +140,51 @@ sizes_from c = record {
 limit_passes : (n : ℕ) → n ≤ limit → IsTrue (nat_le n limit)
 limit_passes n h = grind (arith, nat_tests)
 
-module _ (c : Parts) (is : IsCircuit c) (at : ℕ) (rest : List ℕ) where
-  abbrev pub headed : Rest
-  headed = record { at = at; bytes = codes "aag" ++ tail_of (header_numbers c) rest }
+-- M is at least I + L + A
+pub fits-ascii : (c : Parts) → IsCircuit c → fits Ascii (sizes_from c) ≡ true
+fits-ascii c is = let enough = few_definers c is in grind (arith, nat_tests)
 
-  pub small_numbers : AreSmall (header_numbers c)
-  small_numbers =
-      let sized = is.sized in (
-        omega (arith, sized.top),
+-- ---- the magic words
+pub magic-graphic : (format : Format) → AllByRecursion IsGraphic (magic_of format)
+magic-graphic Ascii = (omega arith, (omega arith, (omega arith, tt)))
+magic-graphic Binary = (omega arith, (omega arith, (omega arith, tt)))
+
+magic-starts : (format : Format) (bytes : List ℕ) → starts_with nat_eq (magic_of format ++ 32 ∷ bytes) (magic_of format ++ 32 ∷ []) ≡ true
+magic-starts Ascii bytes = refl
+magic-starts Binary bytes = refl
+
+magic-fields : (format : Format) (at : ℕ) (bytes : List ℕ) → header_fields (record { at = at; bytes = magic_of format ++ bytes }) ≡ later_fields at (magic_of format ++ bytes)
+magic-fields Ascii at bytes = refl
+magic-fields Binary at bytes = refl
+
+pub small_numbers : (c : Parts) → IsCircuit c → AreSmall (header_numbers c)
+small_numbers c is =
+    let sized = is.sized in (
+      omega (arith, sized.top),
+      (
+        omega (arith, sized.inputs),
         (
-          omega (arith, sized.inputs),
+          omega (arith, sized.latches),
           (
-            omega (arith, sized.latches),
+            omega (arith, sized.outputs),
             (
-              omega (arith, sized.outputs),
-              (
-                omega (arith, sized.gates),
-                last-small (length c.bads) (length c.constraints) sized.bads sized.constraints,
-              ),
+              omega (arith, sized.gates),
+              last-small (length c.bads) (length c.constraints) sized.bads sized.constraints,
             ),
           ),
         ),
-      )
+      ),
+    )
+
+-- a header of this format, and what follows it
+module _ (format : Format) (c : Parts) (is : IsCircuit c) (at : ℕ) (rest : List ℕ) where
+  abbrev pub headed : Rest
+  headed = record { at = at; bytes = magic_of format ++ tail_of (header_numbers c) rest }
 
   header-spell : Spell (header_fields headed) (header_numbers c)
-  header-spell = behind-spell at (codes "aag") (header_numbers c) rest (omega arith, (omega arith, (omega arith, tt))) small_numbers
+  header-spell =
+      subst (λ (fs : List Rest). Spell fs (header_numbers c)) (sym (magic-fields format at (tail_of (header_numbers c) rest)))
+      (behind-spell at (magic_of format) (header_numbers c) rest (magic-graphic format) (small_numbers c is))
 
   pub sizes-are : sizes_in (header_fields headed) ≡ sizes_from c
   sizes-are =
@@ -172,8 +203,8 @@ module _ (c : Parts) (is : IsCircuit c) (at : ℕ) (rest : List ℕ) where
       ∙ (ap (λ n. record (sizes_from c) { bads = n; constraints = get_or (last_sizes (length c.bads) (length c.constraints)) 1 0 }) (last-first (length c.bads) (length c.constraints))
       ∙ ap (λ n. record (sizes_from c) { constraints = n }) (last-second (length c.bads) (length c.constraints)))
 
-  header-fit : Fit header_wants (header_numbers c)
-  header-fit =
+  header-fit : {K : Type 0} (kind : SharedKind → K) → Fit (header_wants kind) (header_numbers c)
+  header-fit kind =
       let sized = is.sized in (
         (limit_passes c.top sized.top, tt),
         (
@@ -182,21 +213,16 @@ module _ (c : Parts) (is : IsCircuit c) (at : ℕ) (rest : List ℕ) where
             (limit_passes (length c.latches) sized.latches, tt),
             (
               (limit_passes (length c.outputs) sized.outputs, tt),
-              ((limit_passes (length c.gates) sized.gates, tt), last-fit (length c.bads) (length c.constraints) sized.bads sized.constraints),
+              ((limit_passes (length c.gates) sized.gates, tt), last-fit (length c.bads) (length c.constraints) kind sized.bads sized.constraints),
             ),
           ),
         ),
       )
 
-  fits-true : fits (sizes_in (header_fields headed)) ≡ true
-  fits-true =
-      let enough = few_definers c is in
-      let yes : fits (sizes_from c) ≡ true = grind (arith, nat_tests) in
-      ap fits sizes-are ∙ yes
-
-  pub header-met : AllMet (header_demands (codes "aag") fits headed)
-  header-met = (
-    refl,
-    met-append (wants_demands headed (header_fields headed) header_wants) _ (wants-fit headed (header_fields headed) header_wants (header_numbers c) header-spell header-fit)
-        (fits-true, none-fit (header_fields headed) header_wants (header_numbers c) header-spell header-fit),
+  pub header-met : {K : Type 0} (kind : SharedKind → K) → fits format (sizes_from c) ≡ true → AllMet (header_demands kind format headed)
+  header-met kind fitting = (
+    magic-starts format (drop 1 (tail_of (header_numbers c) rest)),
+    met-append (wants_demands kind headed (header_fields headed) (header_wants kind)) _
+        (wants-fit kind headed (header_fields headed) (header_wants kind) (header_numbers c) header-spell (header-fit kind))
+        (ap (fits format) sizes-are ∙ fitting, none-fit kind (header_fields headed) (header_wants kind) (header_numbers c) header-spell (header-fit kind)),
   )

@@ -6,9 +6,11 @@ use Rattle.std.proofs.lemmas.Bool.Decides.{nat_tests}
 use Rattle.text_words.specs.Numbers.{natural_of}
 use Rattle.text_words.proofs.Written.{natural_of-decimal, decimal-digits, decimal-some, each-append, each-weaker}
 use Rattle.text_words.specs.Text.{Rest, ends_line, line_after, next_line, is_gap, word, later_fields, fields, number}
-use Rattle.aig_ascii.specs.Demands.{Demand, AllMet}
+use Rattle.aig_ascii.specs.Demands.{AllMet}
 use Rattle.aig_ascii.specs.Fields.{Test, Want, missing, field_demands, want_demands, wants_demands, none_demands}
 use Rattle.aig_ascii.specs.CircuitText.{spaced}
+use Rattle.aig_ascii.proofs.FirstFaults.{met-append}
+use Rattle.aig_ascii.specs.declared.fault.SharedKind.{SharedKind}
 
 -- a byte of a word: above the space
 abbrev pub IsGraphic : ℕ → Type 0
@@ -167,11 +169,11 @@ lines-spell at ((n ∷ ns) ∷ lines) bytes rest small is =
     )
 
 -- ---- what is asked of such lines
-abbrev pub Passes : List Test → ℕ → Type 0
-Passes tests n = AllByRecursion (λ (t : Test). IsTrue (t.passes n)) tests
+abbrev pub Passes : {K : Type 0} → List (Test K) → ℕ → Type 0
+Passes {K} tests n = AllByRecursion (λ (t : Test K). IsTrue (t.passes n)) tests
 
 -- these numbers are what is wanted
-abbrev pub Fit : List Want → List ℕ → Type 0
+abbrev pub Fit : {K : Type 0} → List (Want K) → List ℕ → Type 0
 Fit [] [] = Unit {0}
 Fit [] (n ∷ ns) = ⊥
 Fit (w ∷ ws) [] = IsTrue w.optional × Fit ws []
@@ -186,34 +188,31 @@ numbers-are [] (n ∷ ns) spell = absurd spell
 numbers-are (f ∷ fs) [] spell = absurd spell
 numbers-are (f ∷ fs) (n ∷ ns) spell = ap (λ m. m ∷ map number fs) (number-is f n spell.0) ∙ ap (λ ms. n ∷ ms) (numbers-are fs ns spell.1)
 
-tests-met : (f : Rest) (n : ℕ) (tests : List Test) → number f ≡ n → Passes tests n → AllMet (map (λ (t : Test). record { at = f.at; kind = t.kind; met = t.passes (number f) }) tests)
+tests-met : {K : Type 0} (f : Rest) (n : ℕ) (tests : List (Test K)) → number f ≡ n → Passes tests n → AllMet (map (λ (t : Test K). record { at = f.at; kind = t.kind; met = t.passes (number f) }) tests)
 tests-met f n [] e passes = tt
 tests-met f n (t ∷ tests) e passes = (ap t.passes e ∙ passes.0, tests-met f n tests e passes.1)
 
-field-met : (f : Rest) (n : ℕ) (tests : List Test) → natural_of (word f.bytes) ≡ Some n → Passes tests n → AllMet (field_demands tests f)
-field-met f n tests e passes = (ap is_some e, tests-met f n tests (number-is f n e) passes)
+field-met : {K : Type 0} (kind : SharedKind → K) (f : Rest) (n : ℕ) (tests : List (Test K)) → natural_of (word f.bytes) ≡ Some n → Passes tests n → AllMet (field_demands kind tests f)
+field-met kind f n tests e passes = (ap is_some e, tests-met f n tests (number-is f n e) passes)
 
-pub met-append : (xs ys : List Demand) → AllMet xs → AllMet ys → AllMet (xs ++ ys)
-met-append xs ys mx my = each-append (λ (d : Demand). IsTrue d.met) xs ys mx my
-
-pub wants-fit : (r : Rest) (fs : List Rest) (ws : List Want) (ns : List ℕ) → Spell fs ns → Fit ws ns → AllMet (wants_demands r fs ws)
-wants-fit r fs [] ns spell fit = tt
-wants-fit r [] (w ∷ ws) [] spell fit = met-append (want_demands r w []) (wants_demands r [] ws) (ap_optional w fit.0) (wants-fit r [] ws [] tt fit.1)
+pub wants-fit : {K : Type 0} (kind : SharedKind → K) (r : Rest) (fs : List Rest) (ws : List (Want K)) (ns : List ℕ) → Spell fs ns → Fit ws ns → AllMet (wants_demands kind r fs ws)
+wants-fit kind r fs [] ns spell fit = tt
+wants-fit {K} kind r [] (w ∷ ws) [] spell fit = met-append (want_demands kind r w []) (wants_demands kind r [] ws) (ap_optional w fit.0) (wants-fit kind r [] ws [] tt fit.1)
   where
-    ap_optional : (w : Want) → IsTrue w.optional → AllMet (want_demands r w [])
-    ap_optional w o = subst (λ (b : Bool). AllMet (cond b [] (missing r ∷ []))) (sym o) tt
-wants-fit r [] (w ∷ ws) (n ∷ ns) spell fit = absurd spell
-wants-fit r (f ∷ fs) (w ∷ ws) [] spell fit = absurd spell
-wants-fit r (f ∷ fs) (w ∷ ws) (n ∷ ns) spell fit =
-    met-append (field_demands w.tests f) (wants_demands r fs ws) (field-met f n w.tests spell.0 fit.0) (wants-fit r fs ws ns spell.1 fit.1)
+    ap_optional : (w : Want K) → IsTrue w.optional → AllMet (want_demands kind r w [])
+    ap_optional w o = subst (λ (b : Bool). AllMet (cond b [] (missing kind r ∷ []))) (sym o) tt
+wants-fit kind r [] (w ∷ ws) (n ∷ ns) spell fit = absurd spell
+wants-fit kind r (f ∷ fs) (w ∷ ws) [] spell fit = absurd spell
+wants-fit kind r (f ∷ fs) (w ∷ ws) (n ∷ ns) spell fit =
+    met-append (field_demands kind w.tests f) (wants_demands kind r fs ws) (field-met kind f n w.tests spell.0 fit.0) (wants-fit kind r fs ws ns spell.1 fit.1)
 
-pub none-fit : (fs : List Rest) (ws : List Want) (ns : List ℕ) → Spell fs ns → Fit ws ns → AllMet (none_demands (drop (length ws) fs))
-none-fit [] ws ns spell fit = subst (λ (fs : List Rest). AllMet (none_demands fs)) (sym (drop-none (length ws))) tt
+pub none-fit : {K : Type 0} (kind : SharedKind → K) (fs : List Rest) (ws : List (Want K)) (ns : List ℕ) → Spell fs ns → Fit ws ns → AllMet (none_demands kind (drop (length ws) fs))
+none-fit kind [] ws ns spell fit = subst (λ (fs : List Rest). AllMet (none_demands kind fs)) (sym (drop-none (length ws))) tt
   where
     drop-none : (n : ℕ) → drop {A = Rest} n [] ≡ []
     drop-none zero = refl
     drop-none (suc n) = refl
-none-fit (f ∷ fs) [] [] spell fit = absurd spell
-none-fit (f ∷ fs) [] (n ∷ ns) spell fit = absurd fit
-none-fit (f ∷ fs) (w ∷ ws) [] spell fit = absurd spell
-none-fit (f ∷ fs) (w ∷ ws) (n ∷ ns) spell fit = none-fit fs ws ns spell.1 fit.1
+none-fit kind (f ∷ fs) [] [] spell fit = absurd spell
+none-fit kind (f ∷ fs) [] (n ∷ ns) spell fit = absurd fit
+none-fit kind (f ∷ fs) (w ∷ ws) [] spell fit = absurd spell
+none-fit kind (f ∷ fs) (w ∷ ws) (n ∷ ns) spell fit = none-fit kind fs ws ns spell.1 fit.1

@@ -10,7 +10,10 @@ use Rattle.aig_ascii.specs.Demands.{AllMet}
 use Rattle.aig_ascii.specs.Fields.{Want, line_demands, wants_demands, none_demands}
 use Rattle.aig_ascii.specs.Sections.{number_at, defines, is_known, defining, literal, is_reset, Form, wants_of, defined_by, used_by, section_demands, section_uses, use_demands}
 use Rattle.aig_ascii.specs.Sections.Form.{input, latch, plain, gate}
-use Rattle.aig_ascii.proofs.SpelledLines.{SpellLines, Fit, numbers-are, wants-fit, none-fit, met-append}
+use Rattle.aig_ascii.proofs.SpelledLines.{SpellLines, Fit, numbers-are, wants-fit, none-fit}
+use Rattle.aig_ascii.specs.Kinds.{aag_kind}
+use Rattle.aig_ascii.specs.declared.fault.AagKind.{AagKind}
+use Rattle.aig_ascii.proofs.FirstFaults.{met-append}
 
 -- ---- what n lines spell
 pub lines-items : {A : Type 0} (f : List ℕ → A) (r : Rest) (lines : List (List ℕ)) (rest : List ℕ) → SpellLines r lines rest
@@ -25,11 +28,11 @@ lines-after r [] rest spell = spell
 lines-after r (ns ∷ lines) rest spell = lines-after (next_line r) lines rest spell.1
 
 -- ---- what is asked of a line, by its first number
-abbrev pub wants_for : Form → ℕ → List ℕ → ℕ → List Want
+abbrev pub wants_for : Form → ℕ → List ℕ → ℕ → List (Want AagKind)
 wants_for input top earlier first = defining top earlier ∷ []
-wants_for latch top earlier first = defining top earlier ∷ literal top ∷ record { optional = true; tests = is_reset first ∷ [] } ∷ []
-wants_for plain top earlier first = literal top ∷ []
-wants_for gate top earlier first = defining top earlier ∷ literal top ∷ literal top ∷ []
+wants_for latch top earlier first = defining top earlier ∷ literal aag_kind top ∷ record { optional = true; tests = is_reset aag_kind first ∷ [] } ∷ []
+wants_for plain top earlier first = literal aag_kind top ∷ []
+wants_for gate top earlier first = defining top earlier ∷ literal aag_kind top ∷ literal aag_kind top ∷ []
 
 abbrev pub defined_for : Form → ℕ → List ℕ
 defined_for input first = first ∷ []
@@ -62,12 +65,12 @@ section-met form top earlier r (ns ∷ lines) rest spell fit =
     let first : number_at r 0 ≡ get_or ns 0 0 = ap (λ (ms : List ℕ). get_or ms 0 0) (numbers-are (fields r) ns spell.0) in
     let wants : wants_of form top earlier r ≡ wants_for form top earlier (get_or ns 0 0) = wants-by_first form top earlier r ∙ ap (wants_for form top earlier) first in
     let defs : defined_by form r ≡ defined_for form (get_or ns 0 0) = defined-by_first form r ∙ ap (defined_for form) first in
-    let here : AllMet (line_demands (wants_of form top earlier r) r) =
-    subst (λ (ws : List Want). AllMet (line_demands ws r)) (sym wants)
-    (met-append (wants_demands r (fields r) (wants_for form top earlier (get_or ns 0 0))) (none_demands (drop (length (wants_for form top earlier (get_or ns 0 0))) (fields r)))
-    (wants-fit r (fields r) (wants_for form top earlier (get_or ns 0 0)) ns spell.0 fit.0) (none-fit (fields r) (wants_for form top earlier (get_or ns 0 0)) ns spell.0 fit.0))
+    let here : AllMet (line_demands aag_kind (wants_of form top earlier r) r) =
+    subst (λ (ws : List (Want AagKind)). AllMet (line_demands aag_kind ws r)) (sym wants)
+    (met-append (wants_demands aag_kind r (fields r) (wants_for form top earlier (get_or ns 0 0))) (none_demands aag_kind (drop (length (wants_for form top earlier (get_or ns 0 0))) (fields r)))
+    (wants-fit aag_kind r (fields r) (wants_for form top earlier (get_or ns 0 0)) ns spell.0 fit.0) (none-fit aag_kind (fields r) (wants_for form top earlier (get_or ns 0 0)) ns spell.0 fit.0))
     in
-    met-append (line_demands (wants_of form top earlier r) r) (section_demands form (length lines) top (earlier ++ defined_by form r) (next_line r)) here
+    met-append (line_demands aag_kind (wants_of form top earlier r) r) (section_demands form (length lines) top (earlier ++ defined_by form r) (next_line r)) here
     (subst (λ (ds : List ℕ). AllMet (section_demands form (length lines) top (earlier ++ ds) (next_line r))) (sym defs)
     (section-met form top (earlier ++ defined_for form (get_or ns 0 0)) (next_line r) lines rest spell.1 fit.1))
 

@@ -22,6 +22,7 @@ use Rattle.aig_ascii.specs.declared.header.Sizes.{Sizes}
 use Rattle.aig_ascii.specs.CircuitText.{letter_of, position_of, symbol_text}
 use Rattle.aig_ascii.proofs.SpelledLines.{IsInLine}
 use Rattle.aig_ascii.proofs.SpelledHeader.{sizes_from}
+use Rattle.aig_ascii.specs.declared.fault.SharedKind.{SharedKind}
 
 -- ---- lines of bytes
 -- some byte, and no carriage return at the end
@@ -249,17 +250,17 @@ AreRight sizes earlier [] = Unit {0}
 AreRight sizes earlier (n ∷ names) =
     IsTrue (exists_in sizes n.place) × AllByRecursion (λ (m : Named). m.place ≢ n.place) earlier × AreRight sizes (earlier ++ n ∷ []) names
 
-pub symbols-met : (sizes : Sizes) (earlier : List Named) (lines : List Rest) (names : List Named) → SpellNames lines names → AreRight sizes earlier names
-    → AllMet (symbol_demands sizes earlier lines)
-symbols-met sizes earlier [] [] spell right = tt
-symbols-met sizes earlier [] (n ∷ names) spell right = absurd spell
-symbols-met sizes earlier (l ∷ lines) [] spell right = absurd spell
-symbols-met sizes earlier (l ∷ lines) (n ∷ names) spell right =
+pub symbols-met : {K : Type 0} (kind : SharedKind → K) (sizes : Sizes) (earlier : List Named) (lines : List Rest) (names : List Named) → SpellNames lines names → AreRight sizes earlier names
+    → AllMet (symbol_demands kind sizes earlier lines)
+symbols-met kind sizes earlier [] [] spell right = tt
+symbols-met kind sizes earlier [] (n ∷ names) spell right = absurd spell
+symbols-met kind sizes earlier (l ∷ lines) [] spell right = absurd spell
+symbols-met kind sizes earlier (l ∷ lines) (n ∷ names) spell right =
     let met : is_right sizes earlier (symbol_on l) ≡ true =
     ap (is_right sizes earlier) spell.0 ∙ (ap (λ t. t && not (is_named earlier n.place)) right.0 ∙ ap not (not_named earlier n.place right.1))
     in
     let more : earlier ++ option_to_list (symbol_on l) ≡ earlier ++ n ∷ [] = ap (λ o. earlier ++ option_to_list o) spell.0 in
-    (met, subst (λ (es : List Named). AllMet (symbol_demands sizes es lines)) (sym more) (symbols-met sizes (earlier ++ n ∷ []) lines names spell.1 right.2))
+    (met, subst (λ (es : List Named). AllMet (symbol_demands kind sizes es lines)) (sym more) (symbols-met kind sizes (earlier ++ n ∷ []) lines names spell.1 right.2))
 
 exists-true : (c : Parts) (p : Place) → Exists c p → exists_in (sizes_from c) p ≡ true
 exists-true c (Input k) h = grind (arith, nat_tests)

@@ -1,7 +1,6 @@
 -- What a symbol's line spells, and what is asked of the lines behind the gates.
-use Rattle.std.proofs.Common.{◌≡◌, ◌≢◌, ℕ, ◌+◌, ◌*◌, ◌<◌, ◌≤◌, min, Bool, true, false, cond, not, ◌&&◌, ◌||◌, eqb, nat_lt, nat_eq, option_and_then, Option, Some, None, List, [], ◌∷◌, ◌++◌, length, get_or, refl, sym, ap, ◌∙◌, subst, inl, inr, append_assoc, arith}
+use Rattle.std.proofs.Common.{◌≡◌, ◌≢◌, ℕ, ◌+◌, ◌*◌, ◌<◌, ◌≤◌, min, Bool, true, false, cond, not, ◌&&◌, eqb, nat_lt, option_and_then, Option, Some, None, List, [], ◌∷◌, ◌++◌, length, refl, sym, ap, ◌∙◌, subst, inl, inr, append_assoc, arith}
 use Rattle.std.specs.Option.{option_to_list}
-use Rattle.std.specs.List.{filter_map}
 use Rattle.std.specs.Char.{is_ascii_digit, digit_value}
 use Rattle.std.specs.Str.{all_ascii_digits}
 use Rattle.std.specs.Str.Parse.{digits_value_after}
@@ -13,17 +12,18 @@ use Rattle.aig_model.specs.WellFormed.{limit}
 use Rattle.aig_model.specs.declared.parts.Place.{Place}
 use Rattle.aig_model.specs.declared.parts.Place.TheVariants as places
 use Rattle.aig_model.specs.declared.parts.Named.{Named}
-use Rattle.text_words.specs.Text.{Rest, ends_line, line_bytes, line_after, next_line, later_lines, all_lines, leading_digits, behind_digits, digits_after}
-use Rattle.aig_ascii.specs.Demands.{Demand, demand}
+use Rattle.text_words.specs.Text.{Rest, line_bytes, line_after, next_line, later_lines, all_lines, leading_digits, behind_digits, digits_after}
+use Rattle.aig_ascii.specs.Demands.{demand}
 use Rattle.aig_ascii.specs.Header.{AreFew}
-use Rattle.aig_ascii.specs.Symbols.{begins_comment, is_empty, symbol_lines, symbol_on, symbol_demands, symbols_of, place_at, name_behind, named, symbol_of, exists_in, same_place, is_named, is_right}
-use Rattle.aig_ascii.specs.SymbolTables.{Table, if_exists, place_within, exists_symbol, slot, symbol_line_demands}
-use Rattle.aig_ascii.specs.Reading.{first_unmet, Fails}
+use Rattle.aig_ascii.specs.Symbols.{begins_comment, is_empty, symbol_lines, symbol_on, symbol_demands, symbols_of, place_at, name_behind, named, symbol_of, exists_in, is_right}
+use Rattle.aig_ascii.specs.SymbolTables.{Table, if_exists, place_within, exists_symbol, symbol_line_demands}
+use Rattle.aig_ascii.specs.FirstFaults.{first_unmet, Fails}
 use Rattle.aig_ascii.specs.declared.header.Sizes.{Sizes}
-use Rattle.aig_ascii.specs.declared.fault.AagFault.{AagFault}
-use Rattle.aig_ascii.specs.declared.fault.AagKind.TheVariants.{Symbol}
+use Rattle.aig_ascii.specs.declared.fault.Fault.{Fault}
+use Rattle.aig_ascii.specs.declared.fault.SharedKind.TheVariants.{Symbol}
 use Rattle.text_words.proofs.Fields.{length-behind_digits}
-use Rattle.aig_ascii.proofs.Unmet.{Unmet, first_unmet-behind, fails-front}
+use Rattle.aig_ascii.proofs.FirstFaults.{Unmet, first_unmet-behind, fails-front}
+use Rattle.aig_ascii.specs.declared.fault.SharedKind.{SharedKind}
 
 -- ---- the digits of a symbol
 
@@ -158,20 +158,20 @@ symbol_lines-comment r e =
 
 -- ---- a line before the comment, and those after it
 
-pub symbols-step : (t : Table) (sizes : Sizes) (r : Rest) → t.sizes ≡ sizes → begins_comment (line_bytes r.bytes) ≡ false
-    → symbol_demands sizes t.names (symbol_lines (all_lines r)) ≡ symbol_line_demands t r ++ symbol_demands sizes (t.names ++ option_to_list (symbol_on r)) (symbol_lines (all_lines (next_line r)))
-symbols-step t sizes r is more =
+pub symbols-step : {K : Type 0} (kind : SharedKind → K) (t : Table) (sizes : Sizes) (r : Rest) → t.sizes ≡ sizes → begins_comment (line_bytes r.bytes) ≡ false
+    → symbol_demands kind sizes t.names (symbol_lines (all_lines r)) ≡ symbol_line_demands kind t r ++ symbol_demands kind sizes (t.names ++ option_to_list (symbol_on r)) (symbol_lines (all_lines (next_line r)))
+symbols-step kind t sizes r is more =
     let later = symbol_lines (all_lines (next_line r)) in
     let empty = is_empty (line_bytes r.bytes) in
     let none : (bs : List ℕ) → is_empty bs ≡ true → option_to_list (symbol_of bs) ≡ [] = λ bs. elim bs as (λ v. is_empty v ≡ true → option_to_list (symbol_of v) ≡ []) [
       | [] ↦ λ _. refl
       | (b ∷ bs) ↦ λ h. cc
     ] in
-    let step : (e : Bool) → empty ≡ e → symbol_demands sizes t.names (cond e later (r ∷ later)) ≡ cond e [] (demand r.at Symbol (is_right t.sizes t.names (symbol_on r)) ∷ []) ++ symbol_demands sizes (t.names ++ option_to_list (symbol_on r)) later = λ e. elim e as (λ v. empty ≡ v → symbol_demands sizes t.names (cond v later (r ∷ later)) ≡ cond v [] (demand r.at Symbol (is_right t.sizes t.names (symbol_on r)) ∷ []) ++ symbol_demands sizes (t.names ++ option_to_list (symbol_on r)) later) [
-      | true ↦ λ h. ap (λ ns. symbol_demands sizes ns later) (sym (append-nil t.names) ∙ ap (λ ns. t.names ++ ns) (sym (none (line_bytes r.bytes) h)))
-      | false ↦ λ h. ap (λ (s : Sizes). demand r.at Symbol (is_right s t.names (symbol_on r)) ∷ symbol_demands sizes (t.names ++ option_to_list (symbol_on r)) later) (sym is)
+    let step : (e : Bool) → empty ≡ e → symbol_demands kind sizes t.names (cond e later (r ∷ later)) ≡ cond e [] (demand r.at (kind Symbol) (is_right t.sizes t.names (symbol_on r)) ∷ []) ++ symbol_demands kind sizes (t.names ++ option_to_list (symbol_on r)) later = λ e. elim e as (λ v. empty ≡ v → symbol_demands kind sizes t.names (cond v later (r ∷ later)) ≡ cond v [] (demand r.at (kind Symbol) (is_right t.sizes t.names (symbol_on r)) ∷ []) ++ symbol_demands kind sizes (t.names ++ option_to_list (symbol_on r)) later) [
+      | true ↦ λ h. ap (λ ns. symbol_demands kind sizes ns later) (sym (append-nil t.names) ∙ ap (λ ns. t.names ++ ns) (sym (none (line_bytes r.bytes) h)))
+      | false ↦ λ h. ap (λ (s : Sizes). demand r.at (kind Symbol) (is_right s t.names (symbol_on r)) ∷ symbol_demands kind sizes (t.names ++ option_to_list (symbol_on r)) later) (sym is)
     ] in
-    ap (symbol_demands sizes t.names) (symbol_lines-next r more) ∙ step empty refl
+    ap (symbol_demands kind sizes t.names) (symbol_lines-next r more) ∙ step empty refl
 
 pub symbols-names : (r : Rest) → begins_comment (line_bytes r.bytes) ≡ false → symbols_of (symbol_lines (all_lines r)) ≡ option_to_list (symbol_on r) ++ symbols_of (symbol_lines (all_lines (next_line r)))
 symbols-names r more =
@@ -191,18 +191,18 @@ symbols-names r more =
     ] in
     ap symbols_of (symbol_lines-next r more) ∙ step empty refl
 
-pub symbols-fail : (e : AagFault) (t : Table) (sizes : Sizes) (r : Rest) (o : Unmet) → t.sizes ≡ sizes → begins_comment (line_bytes r.bytes) ≡ false → first_unmet (symbol_demands sizes t.names (symbol_lines (all_lines r))) ≡ o
-    → Fails e (first_unmet (symbol_line_demands t r)) → Fails e o
-symbols-fail e t sizes r o is more all f =
-    subst (λ (x : Unmet). Fails e x) (sym (ap first_unmet (symbols-step t sizes r is more)) ∙ all) (fails-front e (symbol_line_demands t r) (symbol_demands sizes (t.names ++ option_to_list (symbol_on r)) (symbol_lines (all_lines (next_line r)))) f)
+pub symbols-fail : {K : Type 0} (kind : SharedKind → K) (e : Fault K) (t : Table) (sizes : Sizes) (r : Rest) (o : Unmet K) → t.sizes ≡ sizes → begins_comment (line_bytes r.bytes) ≡ false → first_unmet (symbol_demands kind sizes t.names (symbol_lines (all_lines r))) ≡ o
+    → Fails e (first_unmet (symbol_line_demands kind t r)) → Fails e o
+symbols-fail {K} kind e t sizes r o is more all f =
+    subst (λ (x : Unmet K). Fails e x) (sym (ap first_unmet (symbols-step kind t sizes r is more)) ∙ all) (fails-front e (symbol_line_demands kind t r) (symbol_demands kind sizes (t.names ++ option_to_list (symbol_on r)) (symbol_lines (all_lines (next_line r)))) f)
 
-pub symbols-go : (t new : Table) (sizes : Sizes) (r s : Rest) (o : Unmet) → t.sizes ≡ sizes → begins_comment (line_bytes r.bytes) ≡ false → first_unmet (symbol_demands sizes t.names (symbol_lines (all_lines r))) ≡ o
-    → first_unmet (symbol_line_demands t r) ≡ None → new.names ≡ t.names ++ option_to_list (symbol_on r) → s ≡ next_line r → first_unmet (symbol_demands sizes new.names (symbol_lines (all_lines s))) ≡ o
-symbols-go t new sizes r s o is more all met names next =
-    ap (λ x. first_unmet (symbol_demands sizes new.names (symbol_lines (all_lines x)))) next
-    ∙ ap (λ ns. first_unmet (symbol_demands sizes ns (symbol_lines (all_lines (next_line r))))) names
-    ∙ sym (first_unmet-behind (symbol_line_demands t r) _ met)
-    ∙ sym (ap first_unmet (symbols-step t sizes r is more)) ∙ all
+pub symbols-go : {K : Type 0} (kind : SharedKind → K) (t new : Table) (sizes : Sizes) (r s : Rest) (o : Unmet K) → t.sizes ≡ sizes → begins_comment (line_bytes r.bytes) ≡ false → first_unmet (symbol_demands kind sizes t.names (symbol_lines (all_lines r))) ≡ o
+    → first_unmet (symbol_line_demands kind t r) ≡ None → new.names ≡ t.names ++ option_to_list (symbol_on r) → s ≡ next_line r → first_unmet (symbol_demands kind sizes new.names (symbol_lines (all_lines s))) ≡ o
+symbols-go kind t new sizes r s o is more all met names next =
+    ap (λ x. first_unmet (symbol_demands kind sizes new.names (symbol_lines (all_lines x)))) next
+    ∙ ap (λ ns. first_unmet (symbol_demands kind sizes ns (symbol_lines (all_lines (next_line r))))) names
+    ∙ sym (first_unmet-behind (symbol_line_demands kind t r) _ met)
+    ∙ sym (ap first_unmet (symbols-step kind t sizes r is more)) ∙ all
 
 pub names-go : (t new : Table) (r s : Rest) (all : List Named) → begins_comment (line_bytes r.bytes) ≡ false → t.names ++ symbols_of (symbol_lines (all_lines r)) ≡ all
     → new.names ≡ t.names ++ option_to_list (symbol_on r) → s ≡ next_line r → new.names ++ symbols_of (symbol_lines (all_lines s)) ≡ all

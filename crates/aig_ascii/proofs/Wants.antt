@@ -1,22 +1,22 @@
 -- The first fault of a line whose first fields are right.
-use Rattle.std.proofs.Common.{◌≡◌, ℕ, zero, suc, ◌+◌, ◌<◌, ◌≤◌, Bool, true, false, cond, None, List, [], ◌∷◌, ◌++◌, length, map, take, drop, get_or, refl, sym, ap, ◌∙◌, subst, append_assoc, arith}
+use Rattle.std.proofs.Common.{◌≡◌, ℕ, zero, suc, ◌+◌, Bool, true, false, cond, None, List, [], ◌∷◌, ◌++◌, length, map, take, drop, get_or, refl, sym, ap, ◌∙◌, subst, append_assoc, length-append, arith}
 use Rattle.text_words.specs.Text.{Rest, ends_line, later_fields, fields, number, PassesField, PassesFields}
-use Rattle.aig_ascii.specs.Demands.{Demand}
 use Rattle.aig_ascii.specs.Fields.{Test, Want, wanted, missing, missing_at, want_demands, wants_demands, none_demands, line_demands}
-use Rattle.aig_ascii.specs.Reading.{first_unmet, Fails}
-use Rattle.aig_ascii.specs.declared.fault.AagFault.{AagFault}
-use Rattle.aig_ascii.proofs.Unmet.{fails-front, fails-behind, first_unmet-behind}
+use Rattle.aig_ascii.specs.FirstFaults.{first_unmet, Fails}
+use Rattle.aig_ascii.specs.declared.fault.Fault.{Fault}
+use Rattle.aig_ascii.proofs.FirstFaults.{fails-front, fails-behind, first_unmet-behind}
+use Rattle.aig_ascii.specs.declared.fault.SharedKind.{SharedKind}
 
 -- what is asked of fields depends on where the line ends, and on no more of it
-pub want_demands-same : (r s : Rest) (w : Want) (fs : List Rest) → missing s ≡ missing r → want_demands s w fs ≡ want_demands r w fs
-want_demands-same r s w [] e = ap (λ d. cond w.optional [] (d ∷ [])) e
-want_demands-same r s w (f ∷ fs) e = refl
+pub want_demands-same : {K : Type 0} (kind : SharedKind → K) (r s : Rest) (w : Want K) (fs : List Rest) → missing kind s ≡ missing kind r → want_demands kind s w fs ≡ want_demands kind r w fs
+want_demands-same kind r s w [] e = ap (λ d. cond w.optional [] (d ∷ [])) e
+want_demands-same kind r s w (f ∷ fs) e = refl
 
 -- where the demands on a field that must stand here are met, it stands here
-pub field-there : (s : Rest) (tests : List Test) → first_unmet (want_demands s (wanted tests) (fields s)) ≡ None → fields s ≡ s ∷ later_fields s.at s.bytes
-field-there s tests met =
+pub field-there : {K : Type 0} (kind : SharedKind → K) (s : Rest) (tests : List (Test K)) → first_unmet (want_demands kind s (wanted tests) (fields s)) ≡ None → fields s ≡ s ∷ later_fields s.at s.bytes
+field-there kind s tests met =
     let all = s ∷ later_fields s.at s.bytes in
-    let step : (e : Bool) → ends_line s.bytes ≡ e → first_unmet (want_demands s (wanted tests) (cond e [] all)) ≡ None → fields s ≡ all = λ e. elim e as (λ v. ends_line s.bytes ≡ v → first_unmet (want_demands s (wanted tests) (cond v [] all)) ≡ None → fields s ≡ all) [
+    let step : (e : Bool) → ends_line s.bytes ≡ e → first_unmet (want_demands kind s (wanted tests) (cond e [] all)) ≡ None → fields s ≡ all = λ e. elim e as (λ v. ends_line s.bytes ≡ v → first_unmet (want_demands kind s (wanted tests) (cond v [] all)) ≡ None → fields s ≡ all) [
       | true ↦ λ is h. cc
       | false ↦ λ is h. ap (λ t. cond t [] all) is
     ] in
@@ -58,38 +58,59 @@ pub passes-both : (m n : ℕ) (r s t : Rest) → PassesFields n r s → PassesFi
 passes-both m n r s t p q = record { others = q.others ∙ ap (drop m) p.others ∙ drop-sum m n (fields r); end = q.end ∙ p.end; next = q.next ∙ p.next }
 
 -- what is asked of the first fields, and of the others
-pub wants_demands-append : (r : Rest) (fs : List Rest) (ws vs : List Want) → wants_demands r fs (ws ++ vs) ≡ wants_demands r fs ws ++ wants_demands r (drop (length ws) fs) vs
-wants_demands-append r fs [] vs = refl
-wants_demands-append r fs (w ∷ ws) vs =
-    ap (λ ds. want_demands r w fs ++ ds) (wants_demands-append r (drop 1 fs) ws vs ∙ ap (λ gs. wants_demands r (drop 1 fs) ws ++ wants_demands r gs vs) (drop-first (length ws) fs))
-    ∙ sym (append_assoc (want_demands r w fs) (wants_demands r (drop 1 fs) ws) (wants_demands r (drop (suc (length ws)) fs) vs))
+pub wants_demands-append : {K : Type 0} (kind : SharedKind → K) (r : Rest) (fs : List Rest) (ws vs : List (Want K)) → wants_demands kind r fs (ws ++ vs) ≡ wants_demands kind r fs ws ++ wants_demands kind r (drop (length ws) fs) vs
+wants_demands-append kind r fs [] vs = refl
+wants_demands-append kind r fs (w ∷ ws) vs =
+    ap (λ ds. want_demands kind r w fs ++ ds) (wants_demands-append kind r (drop 1 fs) ws vs ∙ ap (λ gs. wants_demands kind r (drop 1 fs) ws ++ wants_demands kind r gs vs) (drop-first (length ws) fs))
+    ∙ sym (append_assoc (want_demands kind r w fs) (wants_demands kind r (drop 1 fs) ws) (wants_demands kind r (drop (suc (length ws)) fs) vs))
 
-pub wants_demands-same : (r s : Rest) (fs : List Rest) (ws : List Want) → missing s ≡ missing r → wants_demands s fs ws ≡ wants_demands r fs ws
-wants_demands-same r s fs [] e = refl
-wants_demands-same r s fs (w ∷ ws) e = ap (λ ds. ds ++ wants_demands s (drop 1 fs) ws) (want_demands-same r s w fs e) ∙ ap (λ ds. want_demands r w fs ++ ds) (wants_demands-same r s (drop 1 fs) ws e)
+pub wants_demands-same : {K : Type 0} (kind : SharedKind → K) (r s : Rest) (fs : List Rest) (ws : List (Want K)) → missing kind s ≡ missing kind r → wants_demands kind s fs ws ≡ wants_demands kind r fs ws
+wants_demands-same kind r s fs [] e = refl
+wants_demands-same kind r s fs (w ∷ ws) e = ap (λ ds. ds ++ wants_demands kind s (drop 1 fs) ws) (want_demands-same kind r s w fs e) ∙ ap (λ ds. want_demands kind r w fs ++ ds) (wants_demands-same kind r s (drop 1 fs) ws e)
 
-wants_demands-passed : (n : ℕ) (r s : Rest) (ws : List Want) → PassesFields n r s → wants_demands s (fields s) ws ≡ wants_demands r (drop n (fields r)) ws
-wants_demands-passed n r s ws p = ap (λ fs. wants_demands s fs ws) p.others ∙ wants_demands-same r s (drop n (fields r)) ws (ap missing_at p.end)
+wants_demands-passed : {K : Type 0} (kind : SharedKind → K) (n : ℕ) (r s : Rest) (ws : List (Want K)) → PassesFields n r s → wants_demands kind s (fields s) ws ≡ wants_demands kind r (drop n (fields r)) ws
+wants_demands-passed kind n r s ws p = ap (λ fs. wants_demands kind s fs ws) p.others ∙ wants_demands-same kind r s (drop n (fields r)) ws (ap (missing_at kind) p.end)
 
-pub wants-met : (r s : Rest) (ws vs : List Want) → PassesFields (length ws) r s → first_unmet (wants_demands r (fields r) ws) ≡ None → first_unmet (wants_demands s (fields s) vs) ≡ None
-    → first_unmet (wants_demands r (fields r) (ws ++ vs)) ≡ None
-wants-met r s ws vs p met more =
-    ap first_unmet (wants_demands-append r (fields r) ws vs)
-    ∙ first_unmet-behind (wants_demands r (fields r) ws) (wants_demands r (drop (length ws) (fields r)) vs) met
-    ∙ sym (ap first_unmet (wants_demands-passed (length ws) r s vs p)) ∙ more
+pub wants-met : {K : Type 0} (kind : SharedKind → K) (r s : Rest) (ws vs : List (Want K)) → PassesFields (length ws) r s → first_unmet (wants_demands kind r (fields r) ws) ≡ None → first_unmet (wants_demands kind s (fields s) vs) ≡ None
+    → first_unmet (wants_demands kind r (fields r) (ws ++ vs)) ≡ None
+wants-met kind r s ws vs p met more =
+    ap first_unmet (wants_demands-append kind r (fields r) ws vs)
+    ∙ first_unmet-behind (wants_demands kind r (fields r) ws) (wants_demands kind r (drop (length ws) (fields r)) vs) met
+    ∙ sym (ap first_unmet (wants_demands-passed kind (length ws) r s vs p)) ∙ more
 
-pub wants-fail : (e : AagFault) (r s : Rest) (ws vs : List Want) → PassesFields (length ws) r s → first_unmet (wants_demands r (fields r) ws) ≡ None → Fails e (first_unmet (wants_demands s (fields s) vs))
-    → Fails e (first_unmet (wants_demands r (fields r) (ws ++ vs)))
-wants-fail e r s ws vs p met fails =
-    subst (λ ds. Fails e (first_unmet ds)) (sym (wants_demands-append r (fields r) ws vs))
-    (fails-behind e (wants_demands r (fields r) ws) (wants_demands r (drop (length ws) (fields r)) vs) met (subst (λ ds. Fails e (first_unmet ds)) (wants_demands-passed (length ws) r s vs p) fails))
+pub wants-fail : {K : Type 0} (kind : SharedKind → K) (e : Fault K) (r s : Rest) (ws vs : List (Want K)) → PassesFields (length ws) r s → first_unmet (wants_demands kind r (fields r) ws) ≡ None → Fails e (first_unmet (wants_demands kind s (fields s) vs))
+    → Fails e (first_unmet (wants_demands kind r (fields r) (ws ++ vs)))
+wants-fail kind e r s ws vs p met fails =
+    subst (λ ds. Fails e (first_unmet ds)) (sym (wants_demands-append kind r (fields r) ws vs))
+    (fails-behind e (wants_demands kind r (fields r) ws) (wants_demands kind r (drop (length ws) (fields r)) vs) met (subst (λ ds. Fails e (first_unmet ds)) (wants_demands-passed kind (length ws) r s vs p) fails))
 
 -- one field
-pub want-met : (r : Rest) (w : Want) → first_unmet (want_demands r w (fields r)) ≡ None → first_unmet (wants_demands r (fields r) (w ∷ [])) ≡ None
-want-met r w met = first_unmet-behind (want_demands r w (fields r)) [] met
+pub want-met : {K : Type 0} (kind : SharedKind → K) (r : Rest) (w : Want K) → first_unmet (want_demands kind r w (fields r)) ≡ None → first_unmet (wants_demands kind r (fields r) (w ∷ [])) ≡ None
+want-met kind r w met = first_unmet-behind (want_demands kind r w (fields r)) [] met
 
-pub want-fails : (e : AagFault) (r : Rest) (w : Want) (ws : List Want) → Fails e (first_unmet (want_demands r w (fields r))) → Fails e (first_unmet (wants_demands r (fields r) (w ∷ ws)))
-want-fails e r w ws f = fails-front e (want_demands r w (fields r)) (wants_demands r (drop 1 (fields r)) ws) f
+pub want-fails : {K : Type 0} (kind : SharedKind → K) (e : Fault K) (r : Rest) (w : Want K) (ws : List (Want K)) → Fails e (first_unmet (want_demands kind r w (fields r))) → Fails e (first_unmet (wants_demands kind r (fields r) (w ∷ ws)))
+want-fails kind e r w ws f = fails-front e (want_demands kind r w (fields r)) (wants_demands kind r (drop 1 (fields r)) ws) f
+
+-- the first fields are as wanted, and are passed
+pub record Passed {K : Type 0} (kind : SharedKind → K) (r : Rest) (wants : List (Want K)) (s : Rest) : Type 0 where
+  pub passes : PassesFields (length wants) r s
+  pub met : first_unmet (wants_demands kind r (fields r) wants) ≡ None
+
+pub passed-none : {K : Type 0} (kind : SharedKind → K) (r : Rest) → Passed kind r [] r
+passed-none kind r = record { passes = passes-none r; met = refl }
+
+pub passed-more : {K : Type 0} {kind : SharedKind → K} {r s t : Rest} {wants : List (Want K)} → (w : Want K) → Passed kind r wants s → first_unmet (want_demands kind s w (fields s)) ≡ None → PassesField s t
+    → Passed kind r (wants ++ w ∷ []) t
+passed-more {kind = kind} {r = r} {s = s} {t = t} {wants = wants} w p met q =
+    let size : suc (length wants) ≡ length (wants ++ w ∷ []) = omega (arith, length-append wants (w ∷ [])) in
+    record {
+      passes = subst (λ n. PassesFields n r t) size (passes-more (length wants) r s t p.passes q);
+      met = wants-met kind r s wants (w ∷ []) p.passes p.met (want-met kind s w met);
+    }
+
+pub passed-fails : {K : Type 0} {kind : SharedKind → K} {r s : Rest} {wants : List (Want K)} → (e : Fault K) (w : Want K) (ws : List (Want K)) → Passed kind r wants s → Fails e (first_unmet (want_demands kind s w (fields s)))
+    → Fails e (first_unmet (wants_demands kind r (fields r) (wants ++ w ∷ ws)))
+passed-fails {kind = kind} {r = r} {s = s} {wants = wants} e w ws p f = wants-fail kind e r s wants (w ∷ ws) p.passes p.met (want-fails kind e s w ws f)
 
 -- the numbers of the fields that are left
 get_or-drop_fields : (n k : ℕ) (fs : List Rest) → get_or (map number (drop n fs)) k 0 ≡ get_or (map number fs) (n + k) 0
@@ -100,21 +121,21 @@ get_or-drop_fields (suc n) k (f ∷ fs) = get_or-drop_fields n k fs ∙ ap (λ i
 pub number-passed : (n k : ℕ) (r s : Rest) → PassesFields n r s → get_or (map number (fields s)) k 0 ≡ get_or (map number (fields r)) (n + k) 0
 number-passed n k r s p = ap (λ fs. get_or (map number fs) k 0) p.others ∙ get_or-drop_fields n k (fields r)
 
-pub wants-fail-front : (e : AagFault) (r : Rest) (ws vs : List Want) → Fails e (first_unmet (wants_demands r (fields r) ws)) → Fails e (first_unmet (wants_demands r (fields r) (ws ++ vs)))
-wants-fail-front e r ws vs f =
-    subst (λ ds. Fails e (first_unmet ds)) (sym (wants_demands-append r (fields r) ws vs)) (fails-front e (wants_demands r (fields r) ws) (wants_demands r (drop (length ws) (fields r)) vs) f)
+pub wants-fail-front : {K : Type 0} (kind : SharedKind → K) (e : Fault K) (r : Rest) (ws vs : List (Want K)) → Fails e (first_unmet (wants_demands kind r (fields r) ws)) → Fails e (first_unmet (wants_demands kind r (fields r) (ws ++ vs)))
+wants-fail-front kind e r ws vs f =
+    subst (λ ds. Fails e (first_unmet ds)) (sym (wants_demands-append kind r (fields r) ws vs)) (fails-front e (wants_demands kind r (fields r) ws) (wants_demands kind r (drop (length ws) (fields r)) vs) f)
 
 -- ---- a line whose first fields are right
 
-pub second-fails : (e : AagFault) (r s : Rest) (v w : Want) (ws : List Want) → first_unmet (want_demands r v (fields r)) ≡ None → PassesField r s → Fails e (first_unmet (want_demands s w (fields s)))
-    → Fails e (first_unmet (line_demands (v ∷ w ∷ ws) r))
-second-fails e r s v w ws met p fails =
-    fails-front e (wants_demands r (fields r) (v ∷ w ∷ ws)) (none_demands (drop (length (v ∷ w ∷ ws)) (fields r)))
-    (wants-fail e r s (v ∷ []) (w ∷ ws) (passes-more 0 r r s (passes-none r) p) (want-met r v met) (want-fails e s w ws fails))
+pub second-fails : {K : Type 0} (kind : SharedKind → K) (e : Fault K) (r s : Rest) (v w : Want K) (ws : List (Want K)) → first_unmet (want_demands kind r v (fields r)) ≡ None → PassesField r s → Fails e (first_unmet (want_demands kind s w (fields s)))
+    → Fails e (first_unmet (line_demands kind (v ∷ w ∷ ws) r))
+second-fails kind e r s v w ws met p fails =
+    fails-front e (wants_demands kind r (fields r) (v ∷ w ∷ ws)) (none_demands kind (drop (length (v ∷ w ∷ ws)) (fields r)))
+    (wants-fail kind e r s (v ∷ []) (w ∷ ws) (passes-more 0 r r s (passes-none r) p) (want-met kind r v met) (want-fails kind e s w ws fails))
 
-pub third-fails : (e : AagFault) (r s t : Rest) (u v w : Want) (ws : List Want) → first_unmet (want_demands r u (fields r)) ≡ None → PassesField r s
-    → first_unmet (want_demands s v (fields s)) ≡ None → PassesField s t → Fails e (first_unmet (want_demands t w (fields t))) → Fails e (first_unmet (line_demands (u ∷ v ∷ w ∷ ws) r))
-third-fails e r s t u v w ws met p met' q fails =
+pub third-fails : {K : Type 0} (kind : SharedKind → K) (e : Fault K) (r s t : Rest) (u v w : Want K) (ws : List (Want K)) → first_unmet (want_demands kind r u (fields r)) ≡ None → PassesField r s
+    → first_unmet (want_demands kind s v (fields s)) ≡ None → PassesField s t → Fails e (first_unmet (want_demands kind t w (fields t))) → Fails e (first_unmet (line_demands kind (u ∷ v ∷ w ∷ ws) r))
+third-fails kind e r s t u v w ws met p met' q fails =
     let first = passes-more 0 r r s (passes-none r) p in
-    fails-front e (wants_demands r (fields r) (u ∷ v ∷ w ∷ ws)) (none_demands (drop (length (u ∷ v ∷ w ∷ ws)) (fields r)))
-    (wants-fail e r t (u ∷ v ∷ []) (w ∷ ws) (passes-more 1 r s t first q) (wants-met r s (u ∷ []) (v ∷ []) first (want-met r u met) (want-met s v met')) (want-fails e t w ws fails))
+    fails-front e (wants_demands kind r (fields r) (u ∷ v ∷ w ∷ ws)) (none_demands kind (drop (length (u ∷ v ∷ w ∷ ws)) (fields r)))
+    (wants-fail kind e r t (u ∷ v ∷ []) (w ∷ ws) (passes-more 1 r s t first q) (wants-met kind r s (u ∷ []) (v ∷ []) first (want-met kind r u met) (want-met kind s v met')) (want-fails kind e t w ws fails))

@@ -16,20 +16,24 @@ use Rattle.aig_ascii.specs.Demands.{Demand, AllMet}
 use Rattle.aig_ascii.specs.Header.{sizes_of, header_demands}
 use Rattle.aig_ascii.specs.Sections.{use_demands}
 use Rattle.aig_ascii.specs.Symbols.{symbol_lines, symbol_demands}
-use Rattle.aig_ascii.specs.Aag.{Layout, layout_from, layout_of, parts_in, uses_in, fits, body_demands, demands, SpellsCircuit}
+use Rattle.aig_ascii.specs.Aag.{Layout, layout_from, layout_of, parts_in, uses_in, body_demands, demands, SpellsCircuit}
 use Rattle.aig_ascii.specs.declared.header.Sizes.{Sizes}
 use Rattle.aig_ascii.specs.CircuitText.{header_numbers, section_of, position_of, Precedes, AreInOrder, sections_text, symbol_text, parts_text, spaced, IsTextOf}
 use Rattle.aig_ascii.specs.RoundTrip.{ReadsBack}
-use Rattle.aig_ascii.proofs.SpelledLines.{tail_of, after-line, met-append}
-use Rattle.aig_ascii.proofs.SpelledHeader.{sizes_from, headed, small_numbers, sizes-are, header-met}
+use Rattle.aig_ascii.proofs.SpelledLines.{tail_of, after-line}
+use Rattle.aig_ascii.proofs.SpelledHeader.{sizes_from, headed, small_numbers, sizes-are, header-met, fits-ascii}
 use Rattle.aig_ascii.proofs.SpelledBody.{layout, behind_sections, inputs_back, latches_back, outputs_back, bads_back, constraints_back, gates_back, body_met, uses_met}
-use Rattle.aig_ascii.proofs.SpelledSymbols.{SpellNames, names-spell, names-back, symbols-met, right-from_apart}
+use Rattle.aig_ascii.proofs.SpelledSymbols.{SpellNames, IsWritten, names-spell, names-back, symbols-met, right-from_apart}
 use Rattle.aig_ascii.proofs.NameRanks.{position_inside}
 use Rattle.gate_order.proofs.OrderExists.{order_exists, acyclic_from_ordered}
 use Rattle.gate_order.proofs.OrderedGates.{apart_from_defined}
+use Rattle.aig_ascii.specs.Kinds.{aag_kind}
+use Rattle.aig_ascii.specs.declared.fault.AagKind.{AagKind}
+use Rattle.aig_ascii.specs.declared.header.Format.TheVariants.{Ascii}
+use Rattle.aig_ascii.proofs.FirstFaults.{met-append}
 
 -- ---- the circuit with its names in another order
-abbrev with_names : Parts → List Named → Parts
+abbrev pub with_names : Parts → List Named → Parts
 with_names c names = record c { names = names }
 
 exists-again : (c : Parts) (names : List Named) (p : Place) → Exists c p → Exists (with_names c names) p
@@ -43,7 +47,7 @@ places_differ : (p q : Place) → Precedes p q → p ≢ q
 places_differ p q (inl before) same = omega (arith, before, ap section_of same)
 places_differ p q (inr after) same = omega (arith, after.1, ap position_of same)
 
-circuit-again : (c : Parts) (names : List Named) → IsCircuit c → AreInOrder c.names names → IsCircuit (with_names c names)
+pub circuit-again : (c : Parts) (names : List Named) → IsCircuit c → AreInOrder c.names names → IsCircuit (with_names c names)
 circuit-again c names is order = record {
   sized = record {
     top = is.sized.top;
@@ -67,8 +71,16 @@ circuit-again c names is order = record {
   };
 }
 
+-- each name can be written, with a position of 64 bits
+pub names-written : (c : Parts) → IsCircuit c → AllByRecursion IsWritten c.names
+names-written c is =
+    recursion_from_All IsWritten c.names
+    (λ k d h.
+    let small = position_inside c (get_or c.names k d).place is.sized (is.names.exist k d h) in
+    (is.names.forms k d h, omega (arith, small)))
+
 -- ---- the whole text
-same_parts : (c : Parts) (inputs : List ℕ) (latches : List Latch) (outputs bads constraints : List ℕ) (gates : List AndGate) (names : List Named)
+pub same_parts : (c : Parts) (inputs : List ℕ) (latches : List Latch) (outputs bads constraints : List ℕ) (gates : List AndGate) (names : List Named)
     → inputs ≡ c.inputs → latches ≡ c.latches → outputs ≡ c.outputs → bads ≡ c.bads → constraints ≡ c.constraints → gates ≡ c.gates → names ≡ c.names
     → record { top = c.top; inputs = inputs; latches = latches; outputs = outputs; bads = bads; constraints = constraints; gates = gates; names = names } ≡ c
 same_parts c inputs latches outputs bads constraints gates names first second third fourth fifth sixth seventh =
@@ -97,13 +109,13 @@ module _ (c : Parts) (is : IsCircuit c) where
       ∙ ap (λ xs. codes "aag" ++ xs) (append_assoc (spaced (header_numbers c)) (10 ∷ []) behind_header)
 
   abbrev head : Rest
-  head = headed c is 0 behind_header
+  head = headed Ascii c is 0 behind_header
 
   whole_is : whole text ≡ head
   whole_is = ap (λ (bs : List ℕ). whole bs) split
 
   sizes_are : sizes_of (whole text) ≡ sizes_from c
-  sizes_are = ap sizes_of whole_is ∙ sizes-are c is 0 behind_header
+  sizes_are = ap sizes_of whole_is ∙ sizes-are Ascii c is 0 behind_header
 
   abbrev start : Rest
   start = next_line (whole text)
@@ -111,7 +123,7 @@ module _ (c : Parts) (is : IsCircuit c) where
   begins : start.bytes ≡ behind_header
   begins =
       ap (λ (r : Rest). (next_line r).bytes) whole_is
-      ∙ after-line 0 (codes "aag") (header_numbers c) behind_header (omega arith, (omega arith, (omega arith, tt))) (small_numbers c is 0 behind_header)
+      ∙ after-line 0 (codes "aag") (header_numbers c) behind_header (omega arith, (omega arith, (omega arith, tt))) (small_numbers c is)
 
   abbrev placed : Layout
   placed = layout c is start symbols begins
@@ -119,15 +131,8 @@ module _ (c : Parts) (is : IsCircuit c) where
   layout_is : layout_of text ≡ placed
   layout_is = ap (λ (s : Sizes). layout_from s start) sizes_are
 
-  written : AllByRecursion (λ (n : Named). IsName n.name × (position_of n.place < 2 ^ 64)) c.names
-  written =
-      recursion_from_All (λ (n : Named). IsName n.name × (position_of n.place < 2 ^ 64)) c.names
-      (λ k d h.
-      let small = position_inside c (get_or c.names k d).place is.sized (is.names.exist k d h) in
-      (is.names.forms k d h, omega (arith, small)))
-
   lines_spell : SpellNames (symbol_lines (all_lines placed.symbols)) c.names
-  lines_spell = names-spell placed.symbols.at c.names placed.symbols.bytes written (behind_sections c is start symbols begins)
+  lines_spell = names-spell placed.symbols.at c.names placed.symbols.bytes (names-written c is) (behind_sections c is start symbols begins)
 
   parts_placed : parts_in placed ≡ c
   parts_placed =
@@ -137,25 +142,25 @@ module _ (c : Parts) (is : IsCircuit c) where
   parts_are : parts_in (layout_of text) ≡ c
   parts_are = ap parts_in layout_is ∙ parts_placed
 
-  symbols_met : AllMet (symbol_demands placed.sizes [] (symbol_lines (all_lines placed.symbols)))
+  symbols_met : AllMet (symbol_demands aag_kind placed.sizes [] (symbol_lines (all_lines placed.symbols)))
   symbols_met =
-      symbols-met (sizes_from c) [] (symbol_lines (all_lines placed.symbols)) c.names lines_spell
+      symbols-met aag_kind (sizes_from c) [] (symbol_lines (all_lines placed.symbols)) c.names lines_spell
       (right-from_apart c [] c.names (recursion_from_All (λ (n : Named). Exists c n.place) c.names is.names.exist) is.names.once)
 
-  abbrev demands_at : Layout → List Demand
-  demands_at l = body_demands l ++ (symbol_demands l.sizes [] (symbol_lines (all_lines l.symbols)) ++ use_demands (definers (parts_in l)) (uses_in l))
+  abbrev demands_at : Layout → List (Demand AagKind)
+  demands_at l = body_demands l ++ (symbol_demands aag_kind l.sizes [] (symbol_lines (all_lines l.symbols)) ++ use_demands (definers (parts_in l)) (uses_in l))
 
   placed_met : AllMet (demands_at placed)
   placed_met =
-      met-append (body_demands placed) (symbol_demands placed.sizes [] (symbol_lines (all_lines placed.symbols)) ++ use_demands (definers (parts_in placed)) (uses_in placed))
+      met-append (body_demands placed) (symbol_demands aag_kind placed.sizes [] (symbol_lines (all_lines placed.symbols)) ++ use_demands (definers (parts_in placed)) (uses_in placed))
       (body_met c is start symbols begins)
-      (met-append (symbol_demands placed.sizes [] (symbol_lines (all_lines placed.symbols))) (use_demands (definers (parts_in placed)) (uses_in placed)) symbols_met
+      (met-append (symbol_demands aag_kind placed.sizes [] (symbol_lines (all_lines placed.symbols))) (use_demands (definers (parts_in placed)) (uses_in placed)) symbols_met
       (subst (λ (p : Parts). AllMet (use_demands (definers p) (uses_in placed))) (sym parts_placed) (uses_met c is start symbols begins)))
 
   all_met : AllMet (demands text)
   all_met =
-      met-append (header_demands (codes "aag") fits (whole text)) (demands_at (layout_of text))
-      (subst (λ (r : Rest). AllMet (header_demands (codes "aag") fits r)) (sym whole_is) (header-met c is 0 behind_header))
+      met-append (header_demands aag_kind Ascii (whole text)) (demands_at (layout_of text))
+      (subst (λ (r : Rest). AllMet (header_demands aag_kind Ascii r)) (sym whole_is) (header-met Ascii c is 0 behind_header aag_kind (fits-ascii c is)))
       (subst (λ (l : Layout). AllMet (demands_at l)) (sym layout_is) placed_met)
 
   spells : (gates : List AndGate) → IsGateOrder c.gates gates → SpellsCircuit text (record c { gates = gates })

@@ -1,5 +1,5 @@
 -- The ASCII format of circuits (AIGER 1.9): which texts spell a circuit, and what the first fault of any other text is.
-use Rattle.std.specs.Prelude.{◌≡◌, ℕ, ◌+◌, Bool, nat_le, ◌⊎◌, Result, codes, List, [], ◌++◌, map, Contains}
+use Rattle.std.specs.Prelude.{◌≡◌, ℕ, ◌⊎◌, Result, List, [], ◌++◌, map, Contains}
 use Rattle.ketch_base.specs.Exactly as exactly
 use Rattle.aig_model.specs.WellFormed.{definers}
 use Rattle.aig_model.specs.declared.parts.AndGate.{AndGate}
@@ -8,13 +8,15 @@ use Rattle.gate_order.specs.GateOrder.{IsGateOrder, IsCycle}
 use Rattle.text_words.specs.Text.{Rest, whole, next_line, lines_of, after_lines, all_lines}
 use Rattle.aig_ascii.specs.Demands.{Demand, AllMet, IsFirstUnmet}
 use Rattle.aig_ascii.specs.Header.{sizes_of, header_demands}
+use Rattle.aig_ascii.specs.declared.header.Format.TheVariants.{Ascii}
 use Rattle.aig_ascii.specs.declared.header.Sizes.{Sizes}
-use Rattle.aig_ascii.specs.Sections.{Form, input, latch, plain, gate, number_at, section_demands, section_uses, use_demands, lits_of, latch_of, gate_of}
+use Rattle.aig_ascii.specs.Sections.{input, latch, plain, gate, number_at, section_demands, section_uses, use_demands, lits_of, latch_of, gate_of}
 use Rattle.aig_ascii.specs.Symbols.{symbol_lines, symbol_demands, symbols_of}
 use Rattle.aig_ascii.specs.declared.fault.AagKind.{AagKind}
 use Rattle.aig_ascii.specs.declared.fault.AagKind.TheVariants.{Cycle}
-use Rattle.aig_ascii.specs.declared.fault.AagFault.{AagFault}
-use Rattle.aig_ascii.specs.declared.fault.AagFault.TheVariants as faults
+use Rattle.aig_ascii.specs.declared.fault.Fault.{Fault}
+use Rattle.aig_ascii.specs.declared.fault.Fault.TheVariants as faults
+use Rattle.aig_ascii.specs.Kinds.{aag_kind}
 
 -- ---- where the sections begin, and how many lines each has
 
@@ -74,12 +76,8 @@ uses_in l =
 
 -- ---- what is asked
 
--- M is at least I + L + A
-abbrev pub fits : Sizes → Bool
-fits s = nat_le (s.inputs + s.latches + s.gates) s.top
-
 -- the lines of the sections, each literal defined once
-abbrev pub body_demands : Layout → List Demand
+abbrev pub body_demands : Layout → List (Demand AagKind)
 body_demands l =
     let top = l.sizes.top in
     let inputs = lits_of l.sizes.inputs l.inputs in
@@ -92,12 +90,12 @@ body_demands l =
     ++ section_demands gate l.sizes.gates top both l.gates))))
 
 -- the header, the sections, the symbols, and then that each used variable is defined somewhere
-abbrev pub demands : List ℕ → List Demand
+abbrev pub demands : List ℕ → List (Demand AagKind)
 demands text =
     let l = layout_of text in
-    header_demands (codes "aag") fits (whole text)
+    header_demands aag_kind Ascii (whole text)
     ++ (body_demands l
-    ++ (symbol_demands l.sizes [] (symbol_lines (all_lines l.symbols))
+    ++ (symbol_demands aag_kind l.sizes [] (symbol_lines (all_lines l.symbols))
     ++ use_demands (definers (parts_in l)) (uses_in l)))
 
 -- ---- the circuit of a text, and its first fault
@@ -126,10 +124,10 @@ IsFirstFault text at kind = IsFirstUnmet (demands text) at kind ⊎ ((kind ≡ C
 -- ---- what a call answers
 
 -- a fault other than out of memory is the first one
-abbrev pub IsFault : List ℕ → AagFault → Type 0
+abbrev pub IsFault : List ℕ → Fault AagKind → Type 0
 IsFault text (faults.At at kind) = IsFirstFault text at kind
 IsFault text faults.OutOfMemory = Unit {0}
 
 -- a call answers so, unless memory runs out
-abbrev pub Answers : Result Parts AagFault → Result Parts AagFault → Type 0
+abbrev pub Answers : Result Parts (Fault AagKind) → Result Parts (Fault AagKind) → Type 0
 Answers result answer = exactly.Answers faults.OutOfMemory result answer

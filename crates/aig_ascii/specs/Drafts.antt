@@ -6,8 +6,9 @@ use Rattle.aig_model.specs.declared.parts.AndGate.{AndGate}
 use Rattle.text_words.specs.Text.{Rest, number}
 use Rattle.aig_ascii.specs.Demands.{Demand, demand}
 use Rattle.aig_ascii.specs.Sections.{defines, is_known}
-use Rattle.aig_ascii.specs.Reading.{first_unmet}
+use Rattle.aig_ascii.specs.FirstFaults.{first_unmet}
 use Rattle.aig_ascii.specs.declared.draft.Use.{Use}
+use Rattle.aig_ascii.specs.declared.fault.AagKind.{AagKind}
 use Rattle.aig_ascii.specs.declared.fault.AagKind.TheVariants.{Undefined}
 
 pub record Draft : Type 0 where
@@ -29,7 +30,7 @@ abbrev pub use_of : Rest → Use
 use_of f = record { at = f.at; lit = number f }
 
 -- the literals of these uses are known
-abbrev pub pending_demands : List ℕ → List Use → List Demand
+abbrev pub pending_demands : List ℕ → List Use → List (Demand AagKind)
 pending_demands lits uses = map (λ (u : Use). demand u.at Undefined (is_known lits u.lit)) uses
 
 -- the pending uses stand for all of them, whatever is defined beside these literals

@@ -1,12 +1,15 @@
--- The header of a circuit's text: a magic word, and up to nine numbers.
-use Rattle.std.specs.Prelude.{◌≤◌, ℕ, Bool, nat_eq, nat_le, List, [], ◌∷◌, ◌++◌, map, get_or, drop}
+-- The header of a circuit's file: a magic word, and up to nine numbers. Both formats have it.
+use Rattle.std.specs.Prelude.{◌≤◌, ℕ, ◌+◌, Bool, nat_eq, nat_le, codes, List, [], ◌∷◌, ◌++◌, map, get_or, drop}
 use Rattle.std.specs.List.{starts_with}
 use Rattle.aig_model.specs.WellFormed.{limit}
 use Rattle.text_words.specs.Text.{Rest, fields, number}
 use Rattle.aig_ascii.specs.Demands.{Demand, demand}
 use Rattle.aig_ascii.specs.Fields.{Test, Want, wanted, optional, wants_demands, none_demands}
 use Rattle.aig_ascii.specs.declared.header.Sizes.{Sizes}
-use Rattle.aig_ascii.specs.declared.fault.AagKind.TheVariants.{Header, Limit, Liveness}
+use Rattle.aig_ascii.specs.declared.header.Format.{Format}
+use Rattle.aig_ascii.specs.declared.header.Format.TheVariants.{Ascii, Binary}
+use Rattle.aig_ascii.specs.declared.fault.SharedKind.{SharedKind}
+use Rattle.aig_ascii.specs.declared.fault.SharedKind.TheVariants.{Header, Limit, Liveness}
 
 -- the fields behind the magic word
 abbrev pub header_fields : Rest → List Rest
@@ -30,28 +33,38 @@ sizes_in fs = record {
 abbrev pub sizes_of : Rest → Sizes
 sizes_of text = sizes_in (header_fields text)
 
-abbrev pub within_limit : Test
-within_limit = record { kind = Limit; passes = λ n. nat_le n limit }
+abbrev pub within_limit : {K : Type 0} → (SharedKind → K) → Test K
+within_limit kind = record { kind = kind Limit; passes = λ n. nat_le n limit }
 
 -- a count of justice or of fairness properties, of which there are none
-abbrev pub no_liveness : Test
-no_liveness = record { kind = Liveness; passes = λ n. nat_eq n 0 }
+abbrev pub no_liveness : {K : Type 0} → (SharedKind → K) → Test K
+no_liveness kind = record { kind = kind Liveness; passes = λ n. nat_eq n 0 }
 
 -- M I L O A B C J F
-abbrev pub header_wants : List Want
-header_wants =
-    wanted (within_limit ∷ []) ∷ wanted (within_limit ∷ []) ∷ wanted (within_limit ∷ []) ∷ wanted (within_limit ∷ []) ∷ wanted (within_limit ∷ [])
-    ∷ optional (within_limit ∷ []) ∷ optional (within_limit ∷ [])
-    ∷ optional (within_limit ∷ no_liveness ∷ []) ∷ optional (within_limit ∷ no_liveness ∷ []) ∷ []
+abbrev pub header_wants : {K : Type 0} → (SharedKind → K) → List (Want K)
+header_wants kind =
+    let size = wanted (within_limit kind ∷ []) in
+    let last = optional (within_limit kind ∷ []) in
+    let none = optional (within_limit kind ∷ no_liveness kind ∷ []) in
+    size ∷ size ∷ size ∷ size ∷ size ∷ last ∷ last ∷ none ∷ none ∷ []
 
--- The text begins with the magic word and a space, and its first line has the numbers, of which M fits the others; that is seen at M, and
+abbrev pub magic_of : Format → List ℕ
+magic_of Ascii = codes "aag"
+magic_of Binary = codes "aig"
+
+-- M is at least I + L + A, and in a binary file is that sum
+abbrev pub fits : Format → Sizes → Bool
+fits Ascii s = nat_le (s.inputs + s.latches + s.gates) s.top
+fits Binary s = nat_eq (s.inputs + s.latches + s.gates) s.top
+
+-- The file begins with the magic word and a space, and its first line has the numbers, of which M fits the others; that is seen at M, and
 -- then comes a field that is one too many.
-abbrev pub header_demands : List ℕ → (Sizes → Bool) → Rest → List Demand
-header_demands magic fits text =
-    demand text.at Header (starts_with nat_eq text.bytes (magic ++ 32 ∷ []))
-    ∷ wants_demands text (header_fields text) header_wants
-    ++ demand (get_or (header_fields text) 0 text).at Header (fits (sizes_of text))
-    ∷ none_demands (drop 9 (header_fields text))
+abbrev pub header_demands : {K : Type 0} → (SharedKind → K) → Format → Rest → List (Demand K)
+header_demands kind format text =
+    demand text.at (kind Header) (starts_with nat_eq text.bytes (magic_of format ++ 32 ∷ []))
+    ∷ wants_demands kind text (header_fields text) (header_wants kind)
+    ++ demand (get_or (header_fields text) 0 text).at (kind Header) (fits format (sizes_of text))
+    ∷ none_demands kind (drop 9 (header_fields text))
 
 -- the sizes are within the limit of each number
 pub record AreFew (s : Sizes) : Type 0 where

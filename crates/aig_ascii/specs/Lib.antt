@@ -3,10 +3,11 @@ pub mod CircuitText
 pub mod Demands
 pub mod Drafts
 pub mod Fields
+pub mod FirstFaults
 pub mod Header
+pub mod Kinds
 pub mod NameOrder
 pub mod ReadSections
-pub mod Reading
 pub mod RoundTrip
 pub mod Sections
 pub mod SymbolTables

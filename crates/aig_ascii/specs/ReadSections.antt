@@ -11,8 +11,10 @@ use Rattle.aig_ascii.specs.Aag.{Layout, parts_in, uses_in, body_demands}
 use Rattle.aig_ascii.specs.declared.reading.Sections.{Sections}
 use Rattle.gate_order.specs.declared.order.fault.OrderFault.{OrderFault}
 use Rattle.gate_order.specs.declared.order.fault.OrderFault.TheVariants as orders
-use Rattle.aig_ascii.specs.declared.fault.AagFault.{AagFault}
-use Rattle.aig_ascii.specs.declared.fault.AagFault.TheVariants as faults
+use Rattle.aig_ascii.specs.declared.fault.Fault.{Fault}
+use Rattle.aig_ascii.specs.declared.fault.Fault.TheVariants as faults
+use Rattle.aig_ascii.specs.Kinds.{aag_kind}
+use Rattle.aig_ascii.specs.declared.fault.AagKind.{AagKind}
 use Rattle.aig_ascii.specs.declared.fault.AagKind.TheVariants.{Cycle}
 
 -- the lists are what the sections spell, and the pending uses stand for all of theirs
@@ -27,9 +29,9 @@ pub record IsSections (l : Layout) (s : Sections) : Type 0 where
   pub uses : StandFor (definers_of s.draft) s.draft.pending (map use_of (uses_in l))
 
 -- what is asked of the lines behind the header
-abbrev pub behind_header : Layout → List Demand
+abbrev pub behind_header : Layout → List (Demand AagKind)
 behind_header l =
-    body_demands l ++ (symbol_demands l.sizes [] (symbol_lines (all_lines l.symbols)) ++ use_demands (definers (parts_in l)) (uses_in l))
+    body_demands l ++ (symbol_demands aag_kind l.sizes [] (symbol_lines (all_lines l.symbols)) ++ use_demands (definers (parts_in l)) (uses_in l))
 
 -- how many lines stand before the gates
 abbrev pub lines_before : Parts → ℕ
@@ -43,6 +45,6 @@ pub record IsGatePlace (text : List ℕ) (c : Parts) (lhs at : ℕ) : Type 0 whe
   pub place : at ≡ (after_lines (lines_before c + index) (whole text)).at
 
 -- the fault that is answered where the gates have none of an order
-abbrev pub IsOrderFault : List ℕ → Parts → OrderFault → AagFault → Type 0
+abbrev pub IsOrderFault : List ℕ → Parts → OrderFault → Fault AagKind → Type 0
 IsOrderFault text c (orders.Cycle lhs) fault = (at : ℕ) × (fault ≡ faults.At at Cycle) × IsGatePlace text c lhs at
 IsOrderFault text c orders.OutOfMemory fault = fault ≡ faults.OutOfMemory

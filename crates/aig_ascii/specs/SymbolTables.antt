@@ -1,12 +1,13 @@
 -- The names so far, and where it is kept which items have one.
-use Rattle.std.specs.Prelude.{ℕ, ◌+◌, Bool, true, false, ◌&&◌, ◌==◌, nat_lt, if◌then◌else◌, Option, Some, None, List, [], ◌∷◌}
+use Rattle.std.specs.Prelude.{ℕ, ◌+◌, Bool, false, if◌then◌else◌, Option, Some, None, List, [], ◌∷◌}
 use Rattle.aig_model.specs.declared.parts.Place.{Place}
 use Rattle.aig_model.specs.declared.parts.Place.TheVariants as places
 use Rattle.aig_model.specs.declared.parts.Named.{Named}
 use Rattle.aig_ascii.specs.Symbols.{is_empty, exists_in, place_at, symbol_on, is_right}
 use Rattle.text_words.specs.Text.{Rest, line_bytes}
 use Rattle.aig_ascii.specs.Demands.{Demand, demand}
-use Rattle.aig_ascii.specs.declared.fault.AagKind.TheVariants.{Symbol}
+use Rattle.aig_ascii.specs.declared.fault.SharedKind.{SharedKind}
+use Rattle.aig_ascii.specs.declared.fault.SharedKind.TheVariants.{Symbol}
 use Rattle.aig_ascii.specs.declared.header.Sizes.{Sizes}
 
 pub record Table : Type 0 where
@@ -38,6 +39,6 @@ exists_symbol sizes None = false
 exists_symbol sizes (Some s) = exists_in sizes s.place
 
 -- what is asked of a line before the comment: nothing of an empty one
-abbrev pub symbol_line_demands : Table → Rest → List Demand
-symbol_line_demands t r =
-    if is_empty (line_bytes r.bytes) then [] else demand r.at Symbol (is_right t.sizes t.names (symbol_on r)) ∷ []
+abbrev pub symbol_line_demands : {K : Type 0} → (SharedKind → K) → Table → Rest → List (Demand K)
+symbol_line_demands kind t r =
+    if is_empty (line_bytes r.bytes) then [] else demand r.at (kind Symbol) (is_right t.sizes t.names (symbol_on r)) ∷ []

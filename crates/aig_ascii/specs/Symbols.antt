@@ -1,4 +1,4 @@
--- The lines after the gates: symbols, and a comment.
+-- The lines after the gates: symbols, and a comment. Both formats have them.
 use Rattle.std.specs.Prelude.{ℕ, Bool, true, false, not, ◌&&◌, ◌||◌, ◌==◌, nat_eq, nat_lt, if◌then◌else◌, option_and_then, Option, Some, None, List, [], ◌∷◌, ◌++◌}
 use Rattle.std.specs.Option.{option_to_list}
 use Rattle.std.specs.List.{filter_map}
@@ -10,7 +10,8 @@ use Rattle.aig_model.specs.declared.parts.Named.{Named}
 use Rattle.text_words.specs.Text.{Rest, line_bytes, leading_digits, behind_digits}
 use Rattle.aig_ascii.specs.Demands.{Demand, demand}
 use Rattle.aig_ascii.specs.declared.header.Sizes.{Sizes}
-use Rattle.aig_ascii.specs.declared.fault.AagKind.TheVariants.{Symbol}
+use Rattle.aig_ascii.specs.declared.fault.SharedKind.{SharedKind}
+use Rattle.aig_ascii.specs.declared.fault.SharedKind.TheVariants.{Symbol}
 
 -- ---- comments
 
@@ -87,10 +88,10 @@ is_right sizes earlier None = false
 is_right sizes earlier (Some s) = exists_in sizes s.place && not (is_named earlier s.place)
 
 -- each line is such a symbol, after those of the lines before it
-abbrev pub symbol_demands : Sizes → List Named → List Rest → List Demand
-symbol_demands sizes earlier [] = []
-symbol_demands sizes earlier (line ∷ lines) =
-    demand line.at Symbol (is_right sizes earlier (symbol_on line)) ∷ symbol_demands sizes (earlier ++ option_to_list (symbol_on line)) lines
+abbrev pub symbol_demands : {K : Type 0} → (SharedKind → K) → Sizes → List Named → List Rest → List (Demand K)
+symbol_demands kind sizes earlier [] = []
+symbol_demands kind sizes earlier (line ∷ lines) =
+    demand line.at (kind Symbol) (is_right sizes earlier (symbol_on line)) ∷ symbol_demands kind sizes (earlier ++ option_to_list (symbol_on line)) lines
 
 -- the symbols on these lines, in their order
 abbrev pub symbols_of : List Rest → List Named

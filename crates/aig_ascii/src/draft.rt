@@ -5,10 +5,11 @@ ghost use Rattle.aig_model.specs.Literal.{var};
 ghost use Rattle.aig_model.specs.WellFormed.{limit};
 ghost use Rattle.text_words.specs.Text.{fields, PassesField};
 ghost use Rattle.text_words.specs.Text as text;
+ghost use Rattle.aig_ascii.specs.Kinds.{aag_kind};
 ghost use Rattle.aig_ascii.specs.Fields.{want_demands};
 ghost use Rattle.aig_ascii.specs.Sections as sections;
 ghost use Rattle.aig_ascii.specs.Sections.{defines, is_known};
-ghost use Rattle.aig_ascii.specs.Reading.{first_unmet, Says};
+ghost use Rattle.aig_ascii.specs.FirstFaults.{first_unmet, Says};
 
 use crate::fault::{AagFault, AagKind};
 use crate::fields::literal;
@@ -110,7 +111,7 @@ impl Draft {
 
     /// The literal of a field that must stand here, and that defines a variable for the first time.
     pub fn defining(&self, cursor: &mut Cursor<'_>) -> Result<Lit, AagFault>
-        ensures demands { Says result (first_unmet (want_demands cursor.old
+        ensures demands { Says result (first_unmet (want_demands aag_kind cursor.old
             (sections.defining self.now.top (definers_of self.now)) (fields cursor.old))) }
         ensures value { IfOk result (λ lit. lit ≡ get_or (map text.number (fields cursor.old)) 0 0) }
         ensures passes { OnOk result (PassesField cursor.old cursor.new) }

@@ -12,12 +12,12 @@ ghost use Rattle.gate_order.specs.GateOrder.{IsGateOrder};
 ghost use Rattle.gate_order.specs.OrderLaws.{IsUnordered};
 ghost use Rattle.gate_order.specs.StandingGates.{StandInOrder};
 ghost use Rattle.aig_ascii.specs.ReadSections.{IsSections, behind_header, lines_before, IsGatePlace, IsOrderFault};
-ghost use Rattle.aig_ascii.specs.Reading.{first_unmet, Says};
+ghost use Rattle.aig_ascii.specs.FirstFaults.{first_unmet, Says};
 ghost use Rattle.aig_ascii.specs.declared.fault.AagKind.{AagKind};
 
 use crate::draft::Draft;
-use crate::fault::{AagFault, AagKind};
-use crate::header::{Sizes, read_header};
+use crate::fault::{AagFault, AagKind, Fault};
+use crate::header::{Format, Sizes, read_header};
 use crate::sections::{read_gates, read_inputs, read_latches, read_lits};
 use crate::symbols::read_symbols;
 use aig_model::{Circuit, Gates, Lit, Lits, Parts};
@@ -80,7 +80,7 @@ fn read_parts(alloc: Global, bytes: &[u8]) -> Result<Parts, AagFault>
     ensures few { OnOk result (AreFew (layout_of bytes.now).sizes) }
 {
     let mut cursor = Cursor::new(bytes);
-    let sizes = read_header(&mut cursor)?;
+    let sizes = read_header(&mut cursor, Format::Ascii)?;
     let parts = read_body(alloc, &mut cursor, sizes)?;
     Ok(parts)
 }
@@ -172,7 +172,7 @@ pub fn read_aag(alloc: Global, bytes: &[u8]) -> Result<Circuit, AagFault>
 
     // Each text that spells a circuit is read, and each first fault is answered.
     ensures every_circuit { (c : Parts) → SpellsCircuit bytes.now c → Answers result (Ok c) }
-    ensures every_fault { (at : ℕ) (kind : AagKind) → IsFirstFault bytes.now at kind → Answers result (Err (AagFault.At at kind)) }
+    ensures every_fault { (at : ℕ) (kind : AagKind) → IsFirstFault bytes.now at kind → Answers result (Err (Fault.At at kind)) }
 {
     let parts = read_parts(alloc, bytes)?;
     // Most files have their gates in order, and then none is copied.

@@ -2,10 +2,11 @@
 
 ghost use Rattle.std.specs.Prelude.{◌≡◌, ◌++◌, ◌∷◌, [], map, OnOk, IfOk};
 ghost use Rattle.text_words.specs.Text.{next_line, lines_of, after_lines};
+ghost use Rattle.aig_ascii.specs.Kinds.{aag_kind};
 ghost use Rattle.aig_ascii.specs.Fields.{line_demands};
 ghost use Rattle.aig_ascii.specs.Sections.{input, latch, plain, gate, wants_of, used_by, number_at, latch_of, gate_of, lits_of, section_demands, section_uses};
 ghost use Rattle.aig_ascii.specs.Drafts.{definers_of, use_of, StandFor};
-ghost use Rattle.aig_ascii.specs.Reading.{first_unmet, Says};
+ghost use Rattle.aig_ascii.specs.FirstFaults.{first_unmet, Says};
 
 use crate::draft::Draft;
 use crate::fault::AagFault;
@@ -15,7 +16,7 @@ use std::alloc::Global;
 use text_words::Cursor;
 
 fn read_input(cursor: &mut Cursor<'_>, draft: &mut Draft) -> Result<(), AagFault>
-    ensures demands { Says result (first_unmet (line_demands (wants_of input draft.old.top (definers_of draft.old) cursor.old) cursor.old)) }
+    ensures demands { Says result (first_unmet (line_demands aag_kind (wants_of input draft.old.top (definers_of draft.old) cursor.old) cursor.old)) }
     ensures draft { OnOk result (draft.new ≡ record draft.old { inputs = draft.old.inputs ++ number_at cursor.old 0 ∷ [] }) }
     ensures next { OnOk result (cursor.new ≡ next_line cursor.old) }
 {
@@ -26,7 +27,7 @@ fn read_input(cursor: &mut Cursor<'_>, draft: &mut Draft) -> Result<(), AagFault
 }
 
 fn read_latch(cursor: &mut Cursor<'_>, draft: &mut Draft) -> Result<(), AagFault>
-    ensures demands { Says result (first_unmet (line_demands (wants_of latch draft.old.top (definers_of draft.old) cursor.old) cursor.old)) }
+    ensures demands { Says result (first_unmet (line_demands aag_kind (wants_of latch draft.old.top (definers_of draft.old) cursor.old) cursor.old)) }
     ensures draft { OnOk result (draft.new ≡ record draft.old { latches = draft.old.latches ++ latch_of cursor.old ∷ []; pending = draft.new.pending }) }
     ensures uses { OnOk result (StandFor (definers_of draft.old) draft.new.pending (draft.old.pending ++ map use_of (used_by latch cursor.old))) }
     ensures next { OnOk result (cursor.new ≡ next_line cursor.old) }
@@ -42,7 +43,7 @@ fn read_latch(cursor: &mut Cursor<'_>, draft: &mut Draft) -> Result<(), AagFault
 }
 
 fn read_plain(cursor: &mut Cursor<'_>, draft: &mut Draft) -> Result<Lit, AagFault>
-    ensures demands { Says result (first_unmet (line_demands (wants_of plain draft.old.top (definers_of draft.old) cursor.old) cursor.old)) }
+    ensures demands { Says result (first_unmet (line_demands aag_kind (wants_of plain draft.old.top (definers_of draft.old) cursor.old) cursor.old)) }
     ensures lit { IfOk result (λ lit. lit ≡ number_at cursor.old 0) }
     ensures draft { OnOk result (draft.new ≡ record draft.old { pending = draft.new.pending }) }
     ensures uses { OnOk result (StandFor (definers_of draft.old) draft.new.pending (draft.old.pending ++ map use_of (used_by plain cursor.old))) }
@@ -56,7 +57,7 @@ fn read_plain(cursor: &mut Cursor<'_>, draft: &mut Draft) -> Result<Lit, AagFaul
 }
 
 fn read_gate(cursor: &mut Cursor<'_>, draft: &mut Draft) -> Result<(), AagFault>
-    ensures demands { Says result (first_unmet (line_demands (wants_of gate draft.old.top (definers_of draft.old) cursor.old) cursor.old)) }
+    ensures demands { Says result (first_unmet (line_demands aag_kind (wants_of gate draft.old.top (definers_of draft.old) cursor.old) cursor.old)) }
     ensures draft { OnOk result (draft.new ≡ record draft.old { gates = draft.old.gates ++ gate_of cursor.old ∷ []; pending = draft.new.pending }) }
     ensures uses { OnOk result (StandFor (definers_of draft.old) draft.new.pending (draft.old.pending ++ map use_of (used_by gate cursor.old))) }
     ensures next { OnOk result (cursor.new ≡ next_line cursor.old) }

@@ -8,9 +8,9 @@ ghost use Rattle.aig_ascii.specs.Demands.{demand};
 ghost use Rattle.aig_ascii.specs.Header.{AreFew};
 ghost use Rattle.aig_ascii.specs.Symbols.{begins_comment, symbol_of, symbol_on, symbol_lines, symbol_demands, symbols_of, exists_in, is_right};
 ghost use Rattle.aig_ascii.specs.SymbolTables.{exists_symbol, slot, slots, place_within, symbol_line_demands};
-ghost use Rattle.aig_ascii.specs.Reading.{first_unmet, Says};
+ghost use Rattle.aig_ascii.specs.FirstFaults.{first_unmet, Says};
 
-use crate::fault::{AagFault, AagKind};
+use crate::fault::{Fault, FormatKind, SharedKind};
 use crate::header::Sizes;
 use aig_model::{Bits, Name, Named, Names, Place};
 use ketch_base::OutOfMemory;
@@ -129,21 +129,21 @@ impl SymbolTable {
     }
 
     /// Adds the symbol of the line that begins at this place.
-    fn add(&mut self, alloc: Global, at: u64, line: &[u8]) -> Result<(), AagFault>
-        ensures demands { Says result (first_unmet (demand at AagKind.Symbol (is_right self.old.sizes self.old.names (symbol_of line.now)) ∷ [])) }
+    fn add<K: FormatKind>(&mut self, alloc: Global, at: u64, line: &[u8]) -> Result<(), Fault<K>>
+        ensures demands { Says result (first_unmet (demand at (K.kind SharedKind.Symbol) (is_right self.old.sizes self.old.names (symbol_of line.now)) ∷ [])) }
         ensures ok { OnOk result (self.new ≡ record self.old { names = self.old.names ++ option_to_list (symbol_of line.now) }) }
     {
         let Some((place, name)) = existing_symbol(self.sizes, line) else {
-            return Err(AagFault::At {
+            return Err(Fault::At {
                 at,
-                kind: AagKind::Symbol,
+                kind: K::of(SharedKind::Symbol),
             });
         };
         let slot = slot(self.sizes, place);
         if self.taken.get(slot) {
-            return Err(AagFault::At {
+            return Err(Fault::At {
                 at,
-                kind: AagKind::Symbol,
+                kind: K::of(SharedKind::Symbol),
             });
         }
         let name = Name::from_vec(Vec::from_slice(alloc, name)?);
@@ -169,12 +169,12 @@ fn goes_on(cursor: &Cursor<'_>) -> bool
 }
 
 /// Reads a line before the comment, which may be empty.
-fn read_symbol_line(
+fn read_symbol_line<K: FormatKind>(
     alloc: Global,
     cursor: &mut Cursor<'_>,
     table: &mut SymbolTable,
-) -> Result<(), AagFault>
-    ensures demands { Says result (first_unmet (symbol_line_demands table.old cursor.old)) }
+) -> Result<(), Fault<K>>
+    ensures demands { Says result (first_unmet (symbol_line_demands K.kind table.old cursor.old)) }
     ensures table { OnOk result (table.new ≡ record table.old { names = table.old.names ++ option_to_list (symbol_on cursor.old) }) }
     ensures next { OnOk result (cursor.new ≡ next_line cursor.old) }
 {
@@ -187,9 +187,13 @@ fn read_symbol_line(
 }
 
 /// The names of the symbols, up to the comment or to the text's end.
-pub fn read_symbols(alloc: Global, cursor: &mut Cursor<'_>, sizes: Sizes) -> Result<Names, AagFault>
+pub fn read_symbols<K: FormatKind>(
+    alloc: Global,
+    cursor: &mut Cursor<'_>,
+    sizes: Sizes,
+) -> Result<Names, Fault<K>>
     requires { AreFew sizes }
-    ensures demands { Says result (first_unmet (symbol_demands sizes [] (symbol_lines (all_lines cursor.old)))) }
+    ensures demands { Says result (first_unmet (symbol_demands K.kind sizes [] (symbol_lines (all_lines cursor.old)))) }
     ensures names { IfOk result (λ names. names ≡ symbols_of (symbol_lines (all_lines cursor.old))) }
 {
     let mut table = SymbolTable::new(alloc, sizes)?;

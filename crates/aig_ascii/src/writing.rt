@@ -10,11 +10,12 @@ mod names;
 mod symbols;
 
 use aig_model::Circuit;
-use header::write_header;
+pub use header::write_header;
 use ketch_base::OutOfMemory;
 use lines::write_sections;
+pub use lines::{push_reset, push_spaced, write_lit, write_lits};
 use std::alloc::Global;
-use symbols::write_symbols;
+pub use symbols::write_symbols;
 
 /// The gates stand in the circuit's order, the names by their sections and positions.
 pub fn write_aag(alloc: Global, circuit: &Circuit) -> Result<Vec<u8>, OutOfMemory>

@@ -18,7 +18,7 @@ pub fn push_spaced(text: &mut Vec<u8>, value: u64) -> Result<(), OutOfMemory>
     Ok(())
 }
 
-fn write_lit(text: &mut Vec<u8>, lit: Lit) -> Result<(), OutOfMemory>
+pub fn write_lit(text: &mut Vec<u8>, lit: Lit) -> Result<(), OutOfMemory>
     ensures { OnOk result (text.new.items ≡ text.old.items ++ lit_text lit) }
 {
     push_natural(text, u64::from(lit.value()))?;
@@ -26,7 +26,7 @@ fn write_lit(text: &mut Vec<u8>, lit: Lit) -> Result<(), OutOfMemory>
     Ok(())
 }
 
-fn write_lits(text: &mut Vec<u8>, lits: &[Lit]) -> Result<(), OutOfMemory>
+pub fn write_lits(text: &mut Vec<u8>, lits: &[Lit]) -> Result<(), OutOfMemory>
     ensures { OnOk result (text.new.items ≡ text.old.items ++ flat_map lit_text lits.now) }
 {
     for lit in lits {
@@ -35,7 +35,7 @@ fn write_lits(text: &mut Vec<u8>, lits: &[Lit]) -> Result<(), OutOfMemory>
     Ok(())
 }
 
-fn push_reset(text: &mut Vec<u8>, lit: Lit, reset: Reset) -> Result<(), OutOfMemory>
+pub fn push_reset(text: &mut Vec<u8>, lit: Lit, reset: Reset) -> Result<(), OutOfMemory>
     ensures { OnOk result (text.new.items ≡ text.old.items ++ spaced (reset_numbers lit reset)) }
 {
     match reset {

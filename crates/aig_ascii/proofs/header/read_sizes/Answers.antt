@@ -3,29 +3,29 @@ use Rattle.std.proofs.lemmas.Result.{err_from_is_err_and}
 use Rattle.aig_ascii.specs.Header.{header_wants, sizes_in, size_at}
 use Rattle.text_words.specs.Text.{fields}
 use Rattle.aig_ascii.specs.declared.header.Sizes.{Sizes}
-use Rattle.aig_ascii.proofs.Unmet.{says-err}
+use Rattle.aig_ascii.proofs.FirstFaults.{says-err}
 use Rattle.aig_ascii.proofs.Wants.{wants-fail-front, wants-fail, wants-met, passes-both, number-passed}
 use Rattle.aig_ascii.proofs.header.read_sizes.Goals as goal
 
 pub returns-in_err-first-clause-demands : goal.returns-in_err-first-clause-demands
-returns-in_err-first-clause-demands c =
+returns-in_err-first-clause-demands g c =
     let p = err_from_is_err_and c.from_residual.result c.from_residual.ensures.1 in
     let e = c.in_err-first.field-0.0 in
-    says-err c.from_residual.result p.0 e _ p.1 p.2 (wants-fail-front e c.args.cursor.now (take 5 header_wants) (drop 5 header_wants) c.in_err-first.ensures.demands)
+    says-err c.from_residual.result p.0 e _ p.1 p.2 (wants-fail-front g.K.FormatKind.kind e c.args.cursor.now (take 5 (header_wants g.K.FormatKind.kind)) (drop 5 (header_wants g.K.FormatKind.kind)) c.in_err-first.ensures.demands)
 
 pub returns-in_err-bads-clause-demands : goal.returns-in_err-bads-clause-demands
-returns-in_err-bads-clause-demands c =
+returns-in_err-bads-clause-demands g c =
     let p = err_from_is_err_and c.from_residual-in_err-bads.result c.from_residual-in_err-bads.ensures.1 in
     let e = c.in_err-bads.field-0.0 in
     says-err c.from_residual-in_err-bads.result p.0 e _ p.1 p.2
-    (wants-fail e c.args.cursor.now c.read_first_sizes.new.cursor (take 5 header_wants) (drop 5 header_wants) c.in_ok-first.ensures.passes c.in_ok-first.ensures.demands c.in_err-bads.ensures.demands)
+    (wants-fail g.K.FormatKind.kind e c.args.cursor.now c.read_first_sizes.new.cursor (take 5 (header_wants g.K.FormatKind.kind)) (drop 5 (header_wants g.K.FormatKind.kind)) c.in_ok-first.ensures.passes c.in_ok-first.ensures.demands c.in_err-bads.ensures.demands)
 
 pub returns-clause-demands : goal.returns-clause-demands
-returns-clause-demands c =
-    wants-met c.args.cursor.now c.read_first_sizes.new.cursor (take 5 header_wants) (drop 5 header_wants) c.in_ok-first.ensures.passes c.in_ok-first.ensures.demands c.in_ok-bads.ensures.demands
+returns-clause-demands g c =
+    wants-met g.K.FormatKind.kind c.args.cursor.now c.read_first_sizes.new.cursor (take 5 (header_wants g.K.FormatKind.kind)) (drop 5 (header_wants g.K.FormatKind.kind)) c.in_ok-first.ensures.passes c.in_ok-first.ensures.demands c.in_ok-bads.ensures.demands
 
 pub returns-clause-sizes : goal.returns-clause-sizes
-returns-clause-sizes c =
+returns-clause-sizes g c =
     let r = c.args.cursor.now in
     let s = c.read_first_sizes.new.cursor in
     let first = c.in_ok-first.first in
@@ -36,5 +36,5 @@ returns-clause-sizes c =
     ∙ ap (λ (n : ℕ). record (sizes_in (fields r)) { constraints = n }) constraints
 
 pub returns-clause-passes : goal.returns-clause-passes
-returns-clause-passes c =
+returns-clause-passes g c =
     passes-both 4 5 c.args.cursor.now c.read_first_sizes.new.cursor c.read_last_sizes.new.cursor c.in_ok-first.ensures.passes c.in_ok-bads.ensures.passes

@@ -1,8 +1,9 @@
 use Rattle.aig_ascii.specs.Aag.{demands}
 use Rattle.aig_ascii.proofs.RightParts.{text-apart}
-use Rattle.aig_ascii.proofs.Answering.{none-unmet, one-circuit, one-fault, no-fault}
+use Rattle.aig_ascii.proofs.CircuitsAndFaults.{one-circuit, one-fault, no-fault}
 use Rattle.aig_ascii.proofs.Texts.{some-reading}
 use Rattle.aig_ascii.proofs.law.each_text_is_read_one_way.Goals as goal
+use Rattle.aig_ascii.proofs.FirstFaults.{none-unmet}
 
 pub returns-clause-one_circuit : goal.returns-clause-one_circuit
 returns-clause-one_circuit c text d e s t = one-circuit text d e (text-apart text (none-unmet (demands text) s.right)) s t

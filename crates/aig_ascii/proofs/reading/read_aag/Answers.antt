@@ -1,13 +1,12 @@
-use Rattle.std.proofs.Common.{◌≡◌, ℕ, Err, Ok, sym, ap, ◌∙◌, subst, inl}
+use Rattle.std.proofs.Common.{Err, Ok, sym, ap, ◌∙◌, subst, inl}
 use Rattle.std.proofs.lemmas.Result.{err_from_is_err_and}
 use Rattle.aig_model.specs.declared.parts.Parts.{Parts}
 use Rattle.gate_order.specs.GateOrder.{DefineApart, IsGateOrder}
 use Rattle.gate_order.specs.OrderLaws.{IsUnordered}
 use Rattle.gate_order.specs.StandingGates.{StandInOrder}
-use Rattle.aig_ascii.specs.Aag.{layout_of, parts_in, SpellsCircuit, IsFault, IsFirstFault, Answers}
 use Rattle.gate_order.specs.declared.order.fault.OrderFault.{OrderFault}
-use Rattle.aig_ascii.proofs.RightParts.{text-unordered, text-apart, parts-sized}
-use Rattle.aig_ascii.proofs.Answering.{fault-unmet, no-circuit, this-fault, circuit-spelled, standing-spelled, one-circuit, no-fault, cycle-side, order-fault, order-no-circuit, order-this-fault}
+use Rattle.aig_ascii.proofs.RightParts.{text-unordered, text-apart}
+use Rattle.aig_ascii.proofs.CircuitsAndFaults.{fault-unmet, no-circuit, this-fault, circuit-spelled, standing-spelled, one-circuit, no-fault, cycle-side, order-fault, order-no-circuit, order-this-fault}
 use Rattle.aig_ascii.proofs.reading.read_aag.Goals as goal
 
 pub returns-in_err-parts-clause-fault : goal.returns-in_err-parts-clause-fault

@@ -1,7 +1,7 @@
 use Rattle.std.proofs.lemmas.Result.{err_from_is_err_and}
 use Rattle.std.proofs.Common.{ap, ◌∙◌}
 use Rattle.aig_ascii.specs.Aag.{parts_in}
-use Rattle.aig_ascii.proofs.Unmet.{says-err}
+use Rattle.aig_ascii.proofs.FirstFaults.{says-err}
 use Rattle.aig_ascii.proofs.WholeText.{header-fails, body-fails, all-met, layout-read}
 use Rattle.aig_ascii.proofs.reading.read_parts.Goals as goal
 

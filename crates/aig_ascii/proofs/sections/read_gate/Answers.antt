@@ -4,11 +4,13 @@ use Rattle.text_words.specs.Text.{fields, number}
 use Rattle.aig_ascii.specs.Fields.{want_demands}
 use Rattle.aig_ascii.specs.Sections.{in_range, defining, literal}
 use Rattle.aig_ascii.specs.Drafts.{Draft, definers_of, use_of, StandFor}
-use Rattle.aig_ascii.specs.Reading.{first_unmet, Fails}
-use Rattle.aig_ascii.proofs.Unmet.{says-err, stand-append}
+use Rattle.aig_ascii.specs.FirstFaults.{first_unmet, Fails}
+use Rattle.aig_ascii.proofs.FirstFaults.{says-err}
+use Rattle.aig_ascii.proofs.Uses.{stand-append}
 use Rattle.aig_ascii.proofs.Wants.{second-fails, third-fails, field-there, two-fields}
 use Rattle.aig_ascii.specs.declared.draft.Use.{Use}
 use Rattle.aig_ascii.proofs.sections.read_gate.Goals as goal
+use Rattle.aig_ascii.specs.Kinds.{aag_kind}
 
 pub returns-in_err-left-clause-demands : goal.returns-in_err-left-clause-demands
 returns-in_err-left-clause-demands c =
@@ -18,8 +20,8 @@ returns-in_err-left-clause-demands c =
     let r = c.args.cursor.now in
     let s = c.defining.new.cursor in
     says-err c.from_residual-in_err-left.result p.0 e _ p.1 p.2
-    (second-fails e r s (defining d.top (definers_of d)) (literal d.top) (literal d.top ∷ []) c.in_ok-lhs.ensures.demands c.in_ok-lhs.ensures.passes
-    (subst (λ (n : ℕ). Fails e (first_unmet (want_demands s (literal n) (fields s)))) c.top.ensures.value c.in_err-left.ensures.demands))
+    (second-fails aag_kind e r s (defining d.top (definers_of d)) (literal aag_kind d.top) (literal aag_kind d.top ∷ []) c.in_ok-lhs.ensures.demands c.in_ok-lhs.ensures.passes
+    (subst (λ (n : ℕ). Fails e (first_unmet (want_demands aag_kind s (literal aag_kind n) (fields s)))) c.top.ensures.value c.in_err-left.ensures.demands))
 
 pub returns-in_err-right-clause-demands : goal.returns-in_err-right-clause-demands
 returns-in_err-right-clause-demands c =
@@ -30,9 +32,9 @@ returns-in_err-right-clause-demands c =
     let s = c.defining.new.cursor in
     let t = c.literal.new.cursor in
     says-err c.from_residual-in_err-right.result p.0 e _ p.1 p.2
-    (third-fails e r s t (defining d.top (definers_of d)) (literal d.top) (literal d.top) [] c.in_ok-lhs.ensures.demands c.in_ok-lhs.ensures.passes
-    (subst (λ (n : ℕ). first_unmet (want_demands s (literal n) (fields s)) ≡ None) c.top.ensures.value c.in_ok-left.ensures.demands) c.in_ok-left.ensures.passes
-    (subst (λ (n : ℕ). Fails e (first_unmet (want_demands t (literal n) (fields t)))) c.top-2.ensures.value c.in_err-right.ensures.demands))
+    (third-fails aag_kind e r s t (defining d.top (definers_of d)) (literal aag_kind d.top) (literal aag_kind d.top) [] c.in_ok-lhs.ensures.demands c.in_ok-lhs.ensures.passes
+    (subst (λ (n : ℕ). first_unmet (want_demands aag_kind s (literal aag_kind n) (fields s)) ≡ None) c.top.ensures.value c.in_ok-left.ensures.demands) c.in_ok-left.ensures.passes
+    (subst (λ (n : ℕ). Fails e (first_unmet (want_demands aag_kind t (literal aag_kind n) (fields t)))) c.top-2.ensures.value c.in_err-right.ensures.demands))
 
 pub returns-clause-uses : goal.returns-clause-uses
 returns-clause-uses c =
@@ -41,8 +43,8 @@ returns-clause-uses c =
     let s = c.defining.new.cursor in
     let t = c.literal.new.cursor in
     let lits = definers_of d in
-    let first = field-there s (in_range c.top.result ∷ []) c.in_ok-left.ensures.demands in
-    let second = field-there t (in_range c.top-2.result ∷ []) c.in_ok-right.ensures.demands in
+    let first = field-there aag_kind s (in_range aag_kind c.top.result ∷ []) c.in_ok-left.ensures.demands in
+    let second = field-there aag_kind t (in_range aag_kind c.top-2.result ∷ []) c.in_ok-right.ensures.demands in
     let left : Use = record { at = c.at-left_at.result; lit = c.in_ok-left.left } in
     let right : Use = record { at = c.at-right_at.result; lit = c.in_ok-right.right } in
     let is_left : left ≡ use_of s = ap (λ (n : ℕ). record { at = n; lit = c.in_ok-left.left }) c.at-left_at.ensures

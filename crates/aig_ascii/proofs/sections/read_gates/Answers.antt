@@ -3,9 +3,8 @@ use Rattle.std.proofs.lemmas.Result.{err_from_is_err_and}
 use Rattle.aig_model.specs.declared.parts.AndGate.{AndGate}
 use Rattle.aig_ascii.specs.Sections.{gate, defines, section_uses, gate_of}
 use Rattle.aig_ascii.specs.Drafts.{Draft, definers_of, use_of}
-use Rattle.aig_ascii.specs.declared.draft.Use.{Use}
-use Rattle.aig_ascii.proofs.Unmet.{says-err}
-use Rattle.aig_ascii.proofs.Counted.{section-fails, section-goes, same-more, covers-more, gate-more, items-go, items-end, after-go, uses-go, uses-end}
+use Rattle.aig_ascii.proofs.FirstFaults.{says-err}
+use Rattle.aig_ascii.proofs.Counted.{section-fails, section-goes, same-more, covers-more, gate-more, items-go, after-go, uses-go}
 use Rattle.aig_ascii.proofs.sections.read_gates.Goals as goal
 
 pub returns-in_err-read_gate-clause-demands : goal.returns-in_err-read_gate-clause-demands

@@ -2,7 +2,7 @@ use Rattle.std.proofs.Common.{◌≡◌, ℕ, List, ◌++◌, ◌∷◌, [], sym
 use Rattle.std.proofs.lemmas.Result.{err_from_is_err_and}
 use Rattle.aig_ascii.specs.Sections.{input, defines, number_at}
 use Rattle.aig_ascii.specs.Drafts.{Draft, definers_of}
-use Rattle.aig_ascii.proofs.Unmet.{says-err}
+use Rattle.aig_ascii.proofs.FirstFaults.{says-err}
 use Rattle.aig_ascii.proofs.Counted.{section-fails, section-goes, same-more, input-more, items-go, after-go}
 use Rattle.aig_ascii.proofs.sections.read_inputs.Goals as goal
 

@@ -2,7 +2,7 @@ use Rattle.std.proofs.Common.{◌≡◌, ◌++◌}
 use Rattle.text_words.specs.Text.{after_lines}
 use Rattle.aig_ascii.specs.Sections.{input, section_demands, lits_of}
 use Rattle.aig_ascii.specs.Drafts.{definers_of}
-use Rattle.aig_ascii.specs.Reading.{first_unmet}
+use Rattle.aig_ascii.specs.FirstFaults.{first_unmet}
 use Rattle.aig_ascii.proofs.sections.read_inputs.Given as goal
 
 abbrev pub invariant-loop-left : goal.invariant-loop-left

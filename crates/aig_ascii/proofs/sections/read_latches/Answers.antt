@@ -3,9 +3,8 @@ use Rattle.std.proofs.lemmas.Result.{err_from_is_err_and}
 use Rattle.aig_model.specs.declared.parts.Latch.{Latch}
 use Rattle.aig_ascii.specs.Sections.{latch, defines, section_uses, latch_of}
 use Rattle.aig_ascii.specs.Drafts.{Draft, definers_of, use_of}
-use Rattle.aig_ascii.specs.declared.draft.Use.{Use}
-use Rattle.aig_ascii.proofs.Unmet.{says-err}
-use Rattle.aig_ascii.proofs.Counted.{section-fails, section-goes, same-more, covers-more, latch-more, items-go, items-end, after-go, uses-go, uses-end}
+use Rattle.aig_ascii.proofs.FirstFaults.{says-err}
+use Rattle.aig_ascii.proofs.Counted.{section-fails, section-goes, same-more, covers-more, latch-more, items-go, after-go, uses-go}
 use Rattle.aig_ascii.proofs.sections.read_latches.Goals as goal
 
 pub returns-in_err-read_latch-clause-demands : goal.returns-in_err-read_latch-clause-demands

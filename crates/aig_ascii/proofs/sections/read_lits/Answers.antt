@@ -1,9 +1,8 @@
-use Rattle.std.proofs.Common.{◌≡◌, ℕ, List, ◌++◌, ◌∷◌, [], map, sym, ap, ◌∙◌}
+use Rattle.std.proofs.Common.{◌≡◌, ℕ, ◌++◌, ◌∷◌, [], map, ap, ◌∙◌}
 use Rattle.std.proofs.lemmas.Result.{err_from_is_err_and}
-use Rattle.std.proofs.lemmas.List.{append-nil}
-use Rattle.aig_ascii.specs.Sections.{plain, defines, section_uses, number_at, lits_of}
+use Rattle.aig_ascii.specs.Sections.{plain, defines, section_uses, number_at}
 use Rattle.aig_ascii.specs.Drafts.{Draft, definers_of, use_of}
-use Rattle.aig_ascii.proofs.Unmet.{says-err}
+use Rattle.aig_ascii.proofs.FirstFaults.{says-err}
 use Rattle.aig_ascii.proofs.Counted.{section-fails, section-goes, same-none, covers-same, items-go, after-go, uses-go}
 use Rattle.aig_ascii.proofs.sections.read_lits.Goals as goal
 

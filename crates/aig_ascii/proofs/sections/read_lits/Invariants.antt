@@ -1,8 +1,8 @@
 use Rattle.std.proofs.Common.{◌≡◌, ◌++◌, map}
-use Rattle.text_words.specs.Text.{lines_of, after_lines}
+use Rattle.text_words.specs.Text.{after_lines}
 use Rattle.aig_ascii.specs.Sections.{plain, section_demands, section_uses, lits_of}
 use Rattle.aig_ascii.specs.Drafts.{definers_of, use_of, StandFor}
-use Rattle.aig_ascii.specs.Reading.{first_unmet}
+use Rattle.aig_ascii.specs.FirstFaults.{first_unmet}
 use Rattle.aig_ascii.proofs.sections.read_lits.Given as goal
 
 abbrev pub invariant-loop-left : goal.invariant-loop-left

@@ -1,7 +1,7 @@
-use Rattle.std.proofs.Common.{◌≡◌, ◌≢◌, false, length, Some, None, ℕ, sym, ap, ◌∙◌, option_and_then, arith}
+use Rattle.std.proofs.Common.{◌≡◌, ◌≢◌, length, Some, None, sym, ap, ◌∙◌, option_and_then, arith}
 use Rattle.std.proofs.lemmas.Bool.Decides.{nat_tests}
-use Rattle.text_words.specs.Text.{behind_digits, leading_digits, digits_after}
-use Rattle.aig_ascii.specs.Symbols.{place_at, name_behind, named, symbol_of, is_empty}
+use Rattle.text_words.specs.Text.{behind_digits, digits_after}
+use Rattle.aig_ascii.specs.Symbols.{place_at, name_behind, named, symbol_of}
 use Rattle.aig_ascii.specs.SymbolTables.{if_exists, exists_symbol}
 use Rattle.aig_ascii.proofs.SymbolLines.{leading-none, leading-some, named-none, exists-none, exists-some, within-cut, symbol_of-parts, some-name}
 use Rattle.aig_ascii.proofs.symbols.existing_symbol.Goals as goal

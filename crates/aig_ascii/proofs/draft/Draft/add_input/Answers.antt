@@ -1,5 +1,4 @@
-use Rattle.std.proofs.Common.{◌≡◌, ℕ, ◌||◌, eqb, List, [], ◌∷◌, ◌++◌, subst, sym, ap, ◌∙◌, arith}
-use Rattle.aig_model.specs.Literal.{var}
+use Rattle.std.proofs.Common.{◌++◌, ap, ◌∙◌, arith}
 use Rattle.aig_model.specs.WellFormed.{latch_lits, left_sides}
 use Rattle.aig_ascii.specs.Sections.{defines}
 use Rattle.aig_ascii.proofs.Defined.{defines-between, marks-more}

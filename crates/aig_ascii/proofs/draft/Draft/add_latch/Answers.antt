@@ -1,6 +1,5 @@
-use Rattle.std.proofs.Common.{◌≡◌, ℕ, ◌||◌, eqb, List, [], ◌∷◌, ◌++◌, subst, sym, ap, ◌∙◌, arith}
+use Rattle.std.proofs.Common.{◌≡◌, [], ◌∷◌, ◌++◌, ap, ◌∙◌, arith}
 use Rattle.std.proofs.lemmas.List.{map-append}
-use Rattle.aig_model.specs.Literal.{var}
 use Rattle.aig_model.specs.WellFormed.{latch_lits, left_sides}
 use Rattle.aig_ascii.specs.Sections.{defines}
 use Rattle.aig_ascii.proofs.Defined.{defines-more, marks-more}

@@ -1,6 +1,6 @@
 use Rattle.std.proofs.Common.{◌≡◌, drop}
 use Rattle.aig_ascii.specs.Drafts.{definers_of, pending_demands}
-use Rattle.aig_ascii.specs.Reading.{first_unmet}
+use Rattle.aig_ascii.specs.FirstFaults.{first_unmet}
 use Rattle.aig_ascii.proofs.draft.Draft.check_uses.Given as goal
 
 abbrev pub invariant-loop-waiting : goal.invariant-loop-waiting

@@ -1,6 +1,6 @@
 use Rattle.std.proofs.Common.{sym, ◌∙◌}
 use Rattle.aig_ascii.specs.Drafts.{definers_of}
-use Rattle.aig_ascii.proofs.Unmet.{stand-known}
+use Rattle.aig_ascii.proofs.Uses.{stand-known}
 use Rattle.aig_ascii.proofs.draft.Draft.note_use.Goals as goal
 
 pub returns-else-not-is_known-clause-uses : goal.returns-else-not-is_known-clause-uses

@@ -1,11 +1,11 @@
-use Rattle.std.proofs.Common.{◌≡◌, true, length, sym, ap, ◌∙◌, arith}
+use Rattle.std.proofs.Common.{true, length, sym, ap, ◌∙◌, arith}
 use Rattle.std.proofs.Math.ListN.{length-set}
 use Rattle.aig_ascii.specs.Symbols.{is_named}
 use Rattle.aig_ascii.proofs.Slots.{taken-more}
 use Rattle.aig_ascii.proofs.symbols.SymbolTable.add.Goals as goal
 
 pub invariant_of-self-2 : goal.invariant_of-self-2
-invariant_of-self-2 c =
+invariant_of-self-2 g c =
     let t = c.self.inside in
     let within = c.slot-slot.ensures.within in (
       c.self.invariant.0,

@@ -1,5 +1,5 @@
 -- What a text spells and what its first fault is, against what is answered.
-use Rattle.std.proofs.Common.{◌≡◌, ◌≢◌, ℕ, zero, suc, ◌+◌, ◌<◌, ◌≤◌, Bool, true, false, cond, IsTrue, Some, None, Result, Ok, Err, List, [], ◌∷◌, ◌++◌, map, AllPairs, Contains, length, get_or, refl, sym, ap, ◌∙◌, subst, inl, inr, arith}
+use Rattle.std.proofs.Common.{◌≡◌, ◌≢◌, ℕ, zero, suc, ◌+◌, ◌<◌, None, Ok, Err, List, [], ◌∷◌, map, Contains, length, get_or, refl, sym, ap, ◌∙◌, subst, inl, inr, arith}
 use Rattle.std.proofs.lemmas.Bool.{cases_lt}
 use Rattle.std.proofs.lemmas.List.{get_or-map, length-map}
 use Rattle.aig_model.specs.WellFormed.{left_sides}
@@ -8,78 +8,34 @@ use Rattle.aig_model.specs.declared.parts.Parts.{Parts}
 use Rattle.gate_order.specs.GateOrder.{DefineApart, IsGateOrder, IsCycle}
 use Rattle.gate_order.specs.StandingGates.{StandInOrder}
 use Rattle.text_words.specs.Text.{Rest, next_line, lines_of, after_lines, whole}
-use Rattle.aig_ascii.specs.Demands.{Demand, never, AllMet, IsFirstUnmet}
 use Rattle.aig_ascii.specs.Sections.{number_at, gate_of, latch_of}
 use Rattle.aig_ascii.specs.Aag.{layout_of, parts_in, demands, SpellsCircuit, HasCycle, IsFirstFault, IsFault, Answers}
 use Rattle.aig_ascii.specs.ReadSections.{lines_before, IsGatePlace, IsOrderFault}
 use Rattle.gate_order.specs.declared.order.fault.OrderFault.{OrderFault}
 use Rattle.gate_order.specs.declared.order.fault.OrderFault.TheVariants as orders
-use Rattle.aig_ascii.specs.Reading.{first_unmet, Fails}
+use Rattle.aig_ascii.specs.FirstFaults.{first_unmet, Fails}
 use Rattle.aig_ascii.specs.declared.fault.AagKind.{AagKind}
 use Rattle.aig_ascii.specs.declared.fault.AagKind.TheVariants.{Cycle}
-use Rattle.aig_ascii.specs.declared.fault.AagFault.{AagFault}
-use Rattle.aig_ascii.specs.declared.fault.AagFault.TheVariants as faults
+use Rattle.aig_ascii.specs.declared.fault.Fault.{Fault}
+use Rattle.aig_ascii.specs.declared.fault.Fault.TheVariants as faults
 use Rattle.gate_order.proofs.Depends.{depends_inside, order_or_cycle, one_cycle}
 use Rattle.gate_order.proofs.OrderedGates.{one_order}
 use Rattle.gate_order.proofs.Standing.{own_order}
 use Rattle.aig_ascii.proofs.RightParts.{length-lines, length-items, text-apart}
 use Rattle.aig_ascii.proofs.RightSections.{left_sides-lines}
-use Rattle.aig_ascii.proofs.Unmet.{Unmet, first_unmet-behind}
-
--- ---- the first unmet demand, as a relation
-
-some-same : (x y : ℕ × AagKind) → ◌≡◌ {A = Unmet} (Some x) (Some y) → x ≡ y
-some-same x y e = cc
-
-one-unmet : (o : Unmet) (x y : ℕ × AagKind) → o ≡ Some x → o ≡ Some y → x ≡ y
-one-unmet o x y p q = some-same x y (sym p ∙ q)
-
-clash : (o : Unmet) (x : ℕ × AagKind) → o ≡ Some x → o ≡ None → ⊥
-clash o x p q = cc
-
-pub all-met : (ds : List Demand) → first_unmet ds ≡ None → AllMet ds
-all-met [] e = tt
-all-met (d ∷ ds) e =
-    let step : (t : Bool) → cond t (first_unmet ds) (Some (d.at, d.kind)) ≡ None → (t ≡ true) × AllMet ds = λ t. elim t as (λ v. cond v (first_unmet ds) (Some (d.at, d.kind)) ≡ None → (v ≡ true) × AllMet ds) [
-      | true ↦ λ h. (refl, all-met ds h)
-      | false ↦ λ h. cc
-    ] in
-    step d.met e
-
-pub none-unmet : (ds : List Demand) → AllMet ds → first_unmet ds ≡ None
-none-unmet [] a = refl
-none-unmet (d ∷ ds) a = ap (λ t. cond t (first_unmet ds) (Some (d.at, d.kind))) a.0 ∙ none-unmet ds a.1
-
-pub is-first : (ds : List Demand) (at : ℕ) (kind : AagKind) → first_unmet ds ≡ Some (at, kind) → IsFirstUnmet ds at kind
-is-first [] at kind e = cc
-is-first (d ∷ ds) at kind e =
-    let step : (t : Bool) → d.met ≡ t → cond t (first_unmet ds) (Some (d.at, d.kind)) ≡ Some (at, kind) → IsFirstUnmet (d ∷ ds) at kind = λ t. elim t as (λ v. d.met ≡ v → cond v (first_unmet ds) (Some (d.at, d.kind)) ≡ Some (at, kind) → IsFirstUnmet (d ∷ ds) at kind) [
-      | true ↦ λ is h.
-          let rest = is-first ds at kind h in
-          record { before = d ∷ rest.before; after = rest.after; parts = ap (λ xs. d ∷ xs) rest.parts; met = (is, rest.met) }
-      | false ↦ λ is h.
-          let place = some-same (d.at, d.kind) (at, kind) h in
-          let same : d.at ≡ at = ap (λ (x : ℕ × AagKind). x.0) place in
-          let kinds : d.kind ≡ kind = ap (λ (x : ℕ × AagKind). x.1) place in
-          let whole : d ≡ never at kind = ap (λ (t : Bool). record d { met = t }) is ∙ ap (λ (n : ℕ). record d { at = n; met = false }) same ∙ ap (λ (k : AagKind). never at k) kinds in
-          record { before = []; after = ds; parts = ap (λ x. x ∷ ds) whole; met = tt }
-    ] in
-    step d.met refl e
-
-pub first-is : (ds : List Demand) (at : ℕ) (kind : AagKind) → IsFirstUnmet ds at kind → first_unmet ds ≡ Some (at, kind)
-first-is ds at kind f = ap first_unmet f.parts ∙ first_unmet-behind f.before (never at kind ∷ f.after) (none-unmet f.before f.met)
+use Rattle.aig_ascii.proofs.FirstFaults.{clash, one-unmet, all-met, none-unmet, is-first, first-is}
 
 -- ---- a demand that isn't met
 
-pub fault-unmet : (text : List ℕ) (e : AagFault) → Fails e (first_unmet (demands text)) → IsFault text e
+pub fault-unmet : (text : List ℕ) (e : Fault AagKind) → Fails e (first_unmet (demands text)) → IsFault text e
 fault-unmet text (faults.At at kind) f = inl (is-first (demands text) at kind f)
 fault-unmet text faults.OutOfMemory f = tt
 
-pub no-circuit : (text : List ℕ) (e : AagFault) (c : Parts) → Fails e (first_unmet (demands text)) → SpellsCircuit text c → Answers (Err e) (Ok c)
+pub no-circuit : (text : List ℕ) (e : Fault AagKind) (c : Parts) → Fails e (first_unmet (demands text)) → SpellsCircuit text c → Answers (Err e) (Ok c)
 no-circuit text (faults.At at kind) c f s = absurd (clash (first_unmet (demands text)) (at, kind) f (none-unmet (demands text) s.right))
 no-circuit text faults.OutOfMemory c f s = inr refl
 
-pub this-fault : (text : List ℕ) (e : AagFault) (at : ℕ) (kind : AagKind) → Fails e (first_unmet (demands text)) → IsFirstFault text at kind → Answers (Err e) (Err (faults.At at kind))
+pub this-fault : (text : List ℕ) (e : Fault AagKind) (at : ℕ) (kind : AagKind) → Fails e (first_unmet (demands text)) → IsFirstFault text at kind → Answers (Err e) (Err (faults.At at kind))
 this-fault text (faults.At a k) at kind f (inl u) =
     inl (ap (λ (x : ℕ × AagKind). Err (faults.At x.0 x.1)) (one-unmet (first_unmet (demands text)) (a, k) (at, kind) f (first-is (demands text) at kind u)))
 this-fault text (faults.At a k) at kind f (inr h) = absurd (clash (first_unmet (demands text)) (a, k) f (none-unmet (demands text) h.1.right))
@@ -213,22 +169,22 @@ cycle-side gates lhs c =
 abbrev pub CyclesOf : List AndGate → OrderFault → Type 0
 CyclesOf gates fault = (lhs : ℕ) → fault ≡ orders.Cycle lhs → IsCycle gates lhs
 
-pub order-fault : (text : List ℕ) (c : Parts) (fault : OrderFault) (e : AagFault) → c ≡ parts_in (layout_of text) → first_unmet (demands text) ≡ None → CyclesOf c.gates fault → IsOrderFault text c fault e → IsFault text e
+pub order-fault : (text : List ℕ) (c : Parts) (fault : OrderFault) (e : Fault AagKind) → c ≡ parts_in (layout_of text) → first_unmet (demands text) ≡ None → CyclesOf c.gates fault → IsOrderFault text c fault e → IsFault text e
 order-fault text c (orders.Cycle lhs) e is met cycles f =
     let cycle = subst (λ (x : Parts). IsCycle x.gates lhs) is (cycles lhs refl) in
-    subst (λ (x : AagFault). IsFault text x) (sym f.1) (inr (refl, cycle-fault text lhs f.0 met cycle (subst (λ (x : Parts). IsGatePlace text x lhs f.0) is f.2)))
-order-fault text c orders.OutOfMemory e is met cycles f = subst (λ (x : AagFault). IsFault text x) (sym f) tt
+    subst (λ (x : Fault AagKind). IsFault text x) (sym f.1) (inr (refl, cycle-fault text lhs f.0 met cycle (subst (λ (x : Parts). IsGatePlace text x lhs f.0) is f.2)))
+order-fault text c orders.OutOfMemory e is met cycles f = subst (λ (x : Fault AagKind). IsFault text x) (sym f) tt
 
-pub order-no-circuit : (text : List ℕ) (c d : Parts) (fault : OrderFault) (e : AagFault) → c ≡ parts_in (layout_of text) → CyclesOf c.gates fault → IsOrderFault text c fault e → SpellsCircuit text d → Answers (Err e) (Ok d)
+pub order-no-circuit : (text : List ℕ) (c d : Parts) (fault : OrderFault) (e : Fault AagKind) → c ≡ parts_in (layout_of text) → CyclesOf c.gates fault → IsOrderFault text c fault e → SpellsCircuit text d → Answers (Err e) (Ok d)
 order-no-circuit text c d (orders.Cycle lhs) e is cycles f s =
     absurd (order_or_cycle (parts_in (layout_of text)).gates s.gates lhs s.ordered (subst (λ (x : Parts). IsCycle x.gates lhs) is (cycles lhs refl)))
-order-no-circuit text c d orders.OutOfMemory e is cycles f s = inr (ap (λ (x : AagFault). Err x) f)
+order-no-circuit text c d orders.OutOfMemory e is cycles f s = inr (ap (λ (x : Fault AagKind). Err x) f)
 
-pub order-this-fault : (text : List ℕ) (c : Parts) (fault : OrderFault) (e : AagFault) (at : ℕ) (kind : AagKind) → c ≡ parts_in (layout_of text) → first_unmet (demands text) ≡ None
+pub order-this-fault : (text : List ℕ) (c : Parts) (fault : OrderFault) (e : Fault AagKind) (at : ℕ) (kind : AagKind) → c ≡ parts_in (layout_of text) → first_unmet (demands text) ≡ None
     → CyclesOf c.gates fault → IsOrderFault text c fault e → IsFirstFault text at kind → Answers (Err e) (Err (faults.At at kind))
 order-this-fault text c (orders.Cycle lhs) e at kind is met cycles f g =
     let cycle = subst (λ (x : Parts). IsCycle x.gates lhs) is (cycles lhs refl) in
     let own : IsFirstFault text f.0 Cycle = inr (refl, cycle-fault text lhs f.0 met cycle (subst (λ (x : Parts). IsGatePlace text x lhs f.0) is f.2)) in
     let same = one-fault text f.0 at Cycle kind own g in
-    inl (ap (λ (x : AagFault). Err x) f.1 ∙ ap (λ n. Err (faults.At n Cycle)) same.0 ∙ ap (λ k. Err (faults.At at k)) same.1)
-order-this-fault text c orders.OutOfMemory e at kind is met cycles f g = inr (ap (λ (x : AagFault). Err x) f)
+    inl (ap (λ (x : Fault AagKind). Err x) f.1 ∙ ap (λ n. Err (faults.At n Cycle)) same.0 ∙ ap (λ k. Err (faults.At at k)) same.1)
+order-this-fault text c orders.OutOfMemory e at kind is met cycles f g = inr (ap (λ (x : Fault AagKind). Err x) f)
