@@ -1,0 +1,16 @@
+pub mod Answering
+pub mod Counted
+pub mod Deltas
+pub mod DeltasBack
+pub mod FileBack
+pub mod GatesBack
+pub mod Groups
+pub mod InputsBelow
+pub mod LinesBack
+pub mod Misplaced
+pub mod MovedSymbols
+pub mod Places
+pub mod ReadLines
+pub mod Refused
+pub mod RightFile
+pub mod RightSections

@@ -1,0 +1,10 @@
+pub mod Aig
+pub mod BinaryOrder
+pub mod CircuitFile
+pub mod Deltas
+pub mod Fronts
+pub mod Kinds
+pub mod ReadSections
+pub mod Refusals
+pub mod RoundTrip
+pub mod Sections
