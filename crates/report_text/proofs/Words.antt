@@ -6,7 +6,8 @@ use Rattle.std.specs.Str.Parse.{AllDigits}
 use Rattle.std.proofs.lemmas.Bool.Decides.{nat_tests}
 use Rattle.std.proofs.lemmas.Fmt.{decimal_is_IsNumeral, decimal_injective}
 use Rattle.std.proofs.lemmas.Str.Parse.{digit_at}
-use Rattle.report_text.specs.Text.{Word, digit}
+use Rattle.wit_text.specs.WitnessText.{digit}
+use Rattle.report_text.specs.Text.{Word}
 use Rattle.report_text.proofs.Lines.{IsPlain, IsWord}
 
 -- ---- numbers

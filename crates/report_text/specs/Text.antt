@@ -1,5 +1,5 @@
 -- The text of a report: lines of words, with one space between the words of a line.
-use Rattle.std.specs.Prelude.{ℕ, ◌+◌, Bool, if◌then◌else◌, List, [], ◌∷◌, ◌++◌, length, map, codes, decimal, Option, Some, None}
+use Rattle.std.specs.Prelude.{ℕ, ◌+◌, List, [], ◌∷◌, ◌++◌, length, map, codes, decimal, Option, Some, None}
 use Rattle.std.specs.List.{flat_map}
 use Rattle.aig_model.specs.Literal.{number}
 use Rattle.aig_model.specs.declared.parts.Kind.{Kind}
@@ -9,6 +9,7 @@ use Rattle.sim_walk.specs.declared.options.Options.{Options}
 use Rattle.board_core.specs.declared.entry.Source.{Source}
 use Rattle.board_core.specs.declared.entry.Source.TheVariants as sources
 use Rattle.board_core.specs.declared.entry.Entry.{Entry}
+use Rattle.wit_text.specs.WitnessText as witness
 use Rattle.report_text.specs.declared.report.HopBound.{HopBound}
 use Rattle.report_text.specs.declared.report.HopBound.TheVariants as hop_bounds
 use Rattle.report_text.specs.declared.report.GoalBlock.{GoalBlock}
@@ -73,16 +74,9 @@ entry_words e = decimal e.number ∷ decimal e.caller ∷ decimal e.goal ∷ kin
 abbrev pub history_lines : List Entry → List Line
 history_lines es = section_lines (codes "history") (λ _ e. entry_words e ∷ []) es
 
--- ---- witnesses (AIGER 1.9)
-abbrev pub digit : Bool → ℕ
-digit b = if b then 49 else 48
-
-unfoldable pub bits_words : List Bool → Line
-bits_words bits = map digit bits ∷ []
-
+-- ---- witnesses (AIGER 1.9): the lines of a witness, each one word
 unfoldable pub witness_lines : ℕ → Trace → List Line
-witness_lines goal t =
-    (codes "1" ∷ []) ∷ ((codes "b" ++ decimal goal) ∷ []) ∷ bits_words t.start ∷ (map bits_words t.rows.rows ++ (codes "." ∷ []) ∷ [])
+witness_lines goal t = map (λ (l : List ℕ). l ∷ []) (witness.witness_lines goal t)
 
 -- ---- goals
 unfoldable pub bound_text : Option ℕ → Word

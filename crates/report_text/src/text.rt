@@ -1,12 +1,12 @@
 //! The text of a report.
 
-ghost use Rattle.std.specs.Prelude.{◌≡◌, ◌<◌, [], ◌∷◌, ◌++◌, length, decimal, slice_index_or, OnOk, IfOk};
+ghost use Rattle.std.specs.Prelude.{◌≡◌, ◌∷◌, ◌++◌, decimal, OnOk, IfOk};
 ghost use Rattle.std.specs.List.{flat_map};
-ghost use Rattle.report_text.specs.Text.{line, text, size_words, options_words, kind_text, source_text, entry_words, history_lines, bits_words, witness_lines, bound_text, hop_text, open_words, block_lines, goals_lines, end_words, report_text};
+ghost use Rattle.report_text.specs.Text.{line, text, size_words, options_words, kind_text, source_text, entry_words, history_lines, bound_text, hop_text, open_words, block_lines, goals_lines, end_words, report_text};
 
 use crate::report::{GoalBlock, GoalBlocks, HopBound, HopBounds, Report};
 use crate::text_writer::TextWriter;
-use aig_model::{Bits, Kind, Rows, Trace};
+use aig_model::{Kind, Trace};
 use board_core::{Entries, Entry, Source};
 use ketch_base::OutOfMemory;
 use sim_walk::Options;
@@ -102,45 +102,6 @@ fn write_history(out: &mut TextWriter, entries: &Entries) -> Result<(), OutOfMem
     Ok(())
 }
 
-#[tactic(auto, unfolding(crate::specs::Text::bits_words))]
-fn write_bits(out: &mut TextWriter, bits: &Bits) -> Result<(), OutOfMemory>
-    ensures { OnOk result (out.new ≡ out.old ++ line (bits_words bits.now)) }
-{
-    for place in 0..bits.len() {
-        out.bit(bits.get(place))?;
-    }
-    out.end_line()?;
-    Ok(())
-}
-
-#[tactic(auto, unfolding(crate::specs::Text::bits_words))]
-fn write_row(out: &mut TextWriter, rows: &Rows, row: usize) -> Result<(), OutOfMemory>
-    requires within { row < length rows.now.rows }
-    requires wide { length (slice_index_or rows.now.rows row []) ≡ rows.now.width }
-    ensures { OnOk result (out.new ≡ out.old ++ line (bits_words (slice_index_or rows.now.rows row []))) }
-{
-    for column in 0..rows.width() {
-        out.bit(rows.bit(row, column))?;
-    }
-    out.end_line()?;
-    Ok(())
-}
-
-#[tactic(auto, unfolding(crate::specs::Text::witness_lines))]
-fn write_witness(out: &mut TextWriter, goal: u64, trace: &Trace) -> Result<(), OutOfMemory>
-    ensures { OnOk result (out.new ≡ out.old ++ text (witness_lines goal trace.now)) }
-{
-    out.word("1\nb")?;
-    out.number(goal)?;
-    out.end_line()?;
-    write_bits(out, &trace.start)?;
-    for row in 0..trace.rows.len() {
-        write_row(out, &trace.rows, row)?;
-    }
-    out.word(".\n")?;
-    Ok(())
-}
-
 #[tactic(auto, unfolding(crate::specs::Text::bound_text))]
 fn write_bound(out: &mut TextWriter, bound: Option<u32>) -> Result<(), OutOfMemory>
     ensures { OnOk result (out.new ≡ out.old ++ 32 ∷ bound_text bound) }
@@ -206,7 +167,7 @@ fn write_reached(
     out.next_word("reached")?;
     out.next_number(number)?;
     out.end_line()?;
-    write_witness(out, goal, witness)?;
+    out.witness(goal, witness)?;
     Ok(())
 }
 

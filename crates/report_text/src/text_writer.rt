@@ -1,12 +1,14 @@
 //! A text as it is written: words with one space between them, line by line.
 
 ghost use Rattle.std.specs.Prelude.{◌≡◌, [], ◌∷◌, ◌++◌, decimal, OnOk};
-ghost use Rattle.report_text.specs.Text.{digit, line, number_words};
+ghost use Rattle.report_text.specs.Text.{line, text, number_words, witness_lines};
 
+use aig_model::Trace;
 use itoa::Buffer;
 use ketch_base::OutOfMemory;
 use std::alloc::Global;
 use std::marker::Model;
+use wit_text::push_witness;
 
 /// The bytes written so far. What a call that finds no memory leaves is a part of the text.
 #[derive(Drop)]
@@ -53,10 +55,11 @@ impl TextWriter {
         Ok(())
     }
 
-    pub fn bit(&mut self, bit: bool) -> Result<(), OutOfMemory>
-        ensures { OnOk result (self.new ≡ self.old ++ digit bit ∷ []) }
+    /// All lines of a witness.
+    pub fn witness(&mut self, property: u64, trace: &Trace) -> Result<(), OutOfMemory>
+        ensures { OnOk result (self.new ≡ self.old ++ text (witness_lines property trace.now)) }
     {
-        self.bytes.push(if bit { b'1' } else { b'0' })?;
+        push_witness(&mut self.bytes, property, trace)?;
         Ok(())
     }
 
