@@ -8,6 +8,10 @@ mod aag_reading;
 #[cfg(test)]
 mod aag_writing;
 #[cfg(test)]
+mod aig_reading;
+#[cfg(test)]
+mod aig_writing;
+#[cfg(test)]
 mod build_rows;
 #[cfg(test)]
 mod evaluation_rows;
@@ -21,3 +25,5 @@ mod number_rows;
 mod order_rows;
 #[cfg(test)]
 mod signal_rows;
+#[cfg(test)]
+mod witness_rows;
