@@ -4,6 +4,7 @@ pub mod Chains
 pub mod Choice
 pub mod Extension
 pub mod Invariant
+pub mod ListedClauses
 pub mod Lists
 pub mod Moves
 pub mod Pairs
@@ -15,4 +16,5 @@ pub mod Units
 pub mod Visits
 pub mod Walks
 pub mod Watches
+pub mod Spans
 pub mod Status

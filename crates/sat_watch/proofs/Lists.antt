@@ -160,9 +160,9 @@ pub record AreFirstLinked (place : ℕ) (heads : List (Option ℕ)) (watches : L
   pub linked : AreLinked heads (take place watches)
   pub same_lits : watch_lits watches ≡ lits
 
-linked_more : (place : ℕ) (heads : List (Option ℕ)) (watches : List Watch) (lits : List ℤ) (d : Watch) → AreFirstLinked place heads watches lits → place < length watches → (lit : ℤ) → lit ≡ (get_or watches place d).lit → AreFirstLinked (place + 1) (set heads (lit_index lit) (Some place)) (set watches place (record { lit = lit; next = head_of heads lit })) lits
-linked_more place heads watches lits d h lt lit is =
-    let y : Watch = record { lit = lit; next = head_of heads lit } in
+linked_more : (place : ℕ) (heads : List (Option ℕ)) (watches : List Watch) (lits : List ℤ) (d : Watch) → AreFirstLinked place heads watches lits → place < length watches → (lit : ℤ) (search : ℕ) → lit ≡ (get_or watches place d).lit → AreFirstLinked (place + 1) (set heads (lit_index lit) (Some place)) (set watches place (record { lit = lit; next = head_of heads lit; search = search })) lits
+linked_more place heads watches lits d h lt lit search is =
+    let y : Watch = record { lit = lit; next = head_of heads lit; search = search } in
     let first = take place watches in
     let more = set heads (lit_index lit) (Some place) in
     let room : lit_index lit < length heads = subst (λ l. lit_index l < length heads) (sym is) (h.in_range place d lt) in
@@ -179,6 +179,6 @@ linked_more place heads watches lits d h lt lit is =
     }
 
 -- the next watch comes to the front of its literal's list
-pub linked_next : (place : ℕ) (heads heads2 : List (Option ℕ)) (watches watches2 : List Watch) (lits : List ℤ) (d : Watch) (lit : ℤ) → AreFirstLinked place heads watches lits → place < length watches → lit ≡ (get_or watches place d).lit → heads2 ≡ set heads (lit_index lit) (Some place) → watches2 ≡ set watches place (record { lit = lit; next = head_of heads lit }) → AreFirstLinked (place + 1) heads2 watches2 lits
-linked_next place heads heads2 watches watches2 lits d lit h lt is heads_are watches_are =
-    rw (heads_are, watches_are) (linked_more place heads watches lits d h lt lit is)
+pub linked_next : (place : ℕ) (heads heads2 : List (Option ℕ)) (watches watches2 : List Watch) (lits : List ℤ) (d : Watch) (lit : ℤ) (search : ℕ) → AreFirstLinked place heads watches lits → place < length watches → lit ≡ (get_or watches place d).lit → heads2 ≡ set heads (lit_index lit) (Some place) → watches2 ≡ set watches place (record { lit = lit; next = head_of heads lit; search = search }) → AreFirstLinked (place + 1) heads2 watches2 lits
+linked_next place heads heads2 watches watches2 lits d lit search h lt is heads_are watches_are =
+    rw (heads_are, watches_are) (linked_more place heads watches lits d h lt lit search is)

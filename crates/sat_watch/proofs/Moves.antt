@@ -204,9 +204,9 @@ pub record IsMoved (heads : List (Option ℕ)) (watches : List Watch) (w : ℕ) 
   pub left : (x : Watch) (before after : List ℕ) → slice_get watches w ≡ Some x → watchers heads watches x.lit ≡ before ++ w ∷ after → watchers heads2 watches2 x.lit ≡ before ++ after
   pub others : (x : Watch) (l : ℤ) → slice_get watches w ≡ Some x → l ≢ to → l ≢ x.lit → watchers heads2 watches2 l ≡ watchers heads watches l
 
-moved_at : (heads : List (Option ℕ)) (watches : List Watch) (w : ℕ) (x : Watch) (before after : List ℕ) (to : ℤ) (heads1 : List (Option ℕ)) (watches1 : List Watch) (previous : Option ℕ) → IsAt heads watches w x before after → last_of before ≡ previous → lit_index to < length heads → to ≢ x.lit → LeadsPast heads watches x previous heads1 watches1 → IsMoved heads watches w to (set heads1 (lit_index to) (Some w)) (set watches1 w (record { lit = to; next = head_of heads1 to }))
-moved_at heads watches w x before after to heads1 watches1 previous at last lt ne past =
-    let y : Watch = record { lit = to; next = head_of heads1 to } in
+moved_at : (heads : List (Option ℕ)) (watches : List Watch) (w : ℕ) (x : Watch) (before after : List ℕ) (to : ℤ) (search : ℕ) (heads1 : List (Option ℕ)) (watches1 : List Watch) (previous : Option ℕ) → IsAt heads watches w x before after → last_of before ≡ previous → lit_index to < length heads → to ≢ x.lit → LeadsPast heads watches x previous heads1 watches1 → IsMoved heads watches w to (set heads1 (lit_index to) (Some w)) (set watches1 w (record { lit = to; next = head_of heads1 to; search = search }))
+moved_at heads watches w x before after to search heads1 watches1 previous at last lt ne past =
+    let y : Watch = record { lit = to; next = head_of heads1 to; search = search } in
     let old = watchers heads watches in
     let list = with_list x.lit (before ++ after) old in
     let all_lists = with_list to (w ∷ list to) list in
@@ -231,10 +231,10 @@ moved_at heads watches w x before after to heads1 watches1 previous at last lt n
       others = λ z l there. subst Others (same z there) others l;
     }
 
-pub moved : (heads : List (Option ℕ)) (watches : List Watch) (w : ℕ) (to : ℤ) (previous : Option ℕ) (heads1 heads2 : List (Option ℕ)) (watches1 watches2 : List Watch) → AreLinked heads watches → (s : StandsBehind heads watches previous w) → lit_index to < length heads → to ≢ s.watch.lit → LeadsPast heads watches s.watch previous heads1 watches1 → heads2 ≡ set heads1 (lit_index to) (Some w) → watches2 ≡ set watches1 w (record { lit = to; next = head_of heads1 to }) → IsMoved heads watches w to heads2 watches2
-moved heads watches w to previous heads1 heads2 watches1 watches2 h s lt ne past heads_are watches_are =
-    let y : Watch = record { lit = to; next = head_of heads1 to } in
+pub moved : (heads : List (Option ℕ)) (watches : List Watch) (w : ℕ) (to : ℤ) (search : ℕ) (previous : Option ℕ) (heads1 heads2 : List (Option ℕ)) (watches1 watches2 : List Watch) → AreLinked heads watches → (s : StandsBehind heads watches previous w) → lit_index to < length heads → to ≢ s.watch.lit → LeadsPast heads watches s.watch previous heads1 watches1 → heads2 ≡ set heads1 (lit_index to) (Some w) → watches2 ≡ set watches1 w (record { lit = to; next = head_of heads1 to; search = search }) → IsMoved heads watches w to heads2 watches2
+moved heads watches w to search previous heads1 heads2 watches1 watches2 h s lt ne past heads_are watches_are =
+    let y : Watch = record { lit = to; next = head_of heads1 to; search = search } in
     let P : List (Option ℕ) → Type 0 = λ hs. IsMoved heads watches w to hs watches2 in
     let Q : List Watch → Type 0 = λ ws. IsMoved heads watches w to (set heads1 (lit_index to) (Some w)) ws in
     let at : IsAt heads watches w s.watch s.before s.after = record { linked = h; here = s.here; parts = s.in_list } in
-    subst P (sym heads_are) (subst Q (sym watches_are) (moved_at heads watches w s.watch s.before s.after to heads1 watches1 previous at s.behind lt ne past))
+    subst P (sym heads_are) (subst Q (sym watches_are) (moved_at heads watches w s.watch s.before s.after to search heads1 watches1 previous at s.behind lt ne past))

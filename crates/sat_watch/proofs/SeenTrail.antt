@@ -1,5 +1,5 @@
 -- What was seen, and what is quiet for it.
-use Rattle.std.proofs.Common.{◌≡◌, ℕ, zero, suc, ◌+◌, ◌-◌, ◌*◌, ◌^◌, ◌<◌, ◌≤◌, Bool, true, leb, Option, None, ℤ, List, [], ◌∷◌, ◌++◌, length, get_or, set, take, drop, refl, ap, sym, ◌∙◌, subst, arith, inl, inr}
+use Rattle.std.proofs.Common.{◌≡◌, ℕ, zero, suc, ◌+◌, ◌-◌, ◌^◌, ◌<◌, ◌≤◌, Bool, true, leb, Option, None, ℤ, List, [], ◌∷◌, ◌++◌, length, get_or, set, take, drop, refl, ap, sym, ◌∙◌, subst, arith, inl, inr}
 use Rattle.std.proofs.lemmas.Bool.{cases_lt, le-leb, lt-leb}
 use Rattle.std.proofs.lemmas.List.{append_assoc, append-nil, length-map, length-take, get_or-take, take-map, take-take, take_all, take_more, take_more_set, take-append-le, take-append-drop, drop-append-le, get_or-map}
 use Rattle.std.proofs.lemmas.List.Elements.{filter-append}
@@ -11,7 +11,7 @@ use Rattle.sat_watch.specs.declared.scan.Scan.{Scan}
 use Rattle.sat_watch.specs.declared.scan.Scan.TheVariants.{Quiet}
 use Rattle.sat_watch.specs.Book.{BookState, marks, Follow, ExtendsByUnits}
 use Rattle.sat_watch.specs.Kept.{first_lit, second_lit, IsWatched, Each, EachBefore, mark_lits, mark_levels, IsRising, BeginsLevel, IsStart, IsKept}
-use Rattle.sat_watch.specs.Links.{AreLinked, watch_lits}
+use Rattle.sat_watch.specs.Links.{watch_lits}
 use Rattle.sat_watch.specs.Watching.{AreKnown, AreWatchedBelow}
 use Rattle.sat_watch.proofs.Watches.{watched_nothing}
 
@@ -234,7 +234,6 @@ watched_below clauses heads watches t h trail place lt begins = by_level (get_or
 
 pub IsKept-after : (b : BookState) (heads heads' : List (Option ℕ)) (watches watches' : List Watch) (items items' : List Mark) (count watched_count : ℕ) (quiet quiet' : Bool) (new : TrailState) (scan : Scan) → IsKept b heads watches items count watched_count quiet → new.vars ≡ b.vars → IsTrail new → length new.assignments ≤ new.vars → length items' ≡ length items → length heads' ≡ length heads → length watches' ≡ length watches → AreWatchedBelow b.clauses heads' watches' new → (scan ≡ Quiet → Each (IsWatched (lits new.assignments) (lits new.assignments)) b.clauses (watch_lits watches')) → (quiet' ≡ true → scan ≡ Quiet) → IsKept (record { vars = b.vars; clauses = b.clauses; seen = marks new.assignments }) heads' watches' items' (length new.assignments) (length b.clauses) quiet'
 IsKept-after b heads heads' watches watches' items items' count watched_count quiet quiet' new scan h same trail few len heads_len watches_len below whole is_quiet =
-    let L : List Watch → Type 0 = λ ws. AreLinked heads' ws in
     let W : List ℤ → Type 0 = λ ls. EachBefore (length b.clauses) (IsWatched ls ls) b.clauses (watch_lits watches') in
     record {
       few_vars = h.few_vars;
@@ -249,8 +248,8 @@ IsKept-after b heads heads' watches watches' items items' count watched_count qu
       watched_some = omega arith;
       rising = λ i j le lt. (let N : List ℕ → Type 0 = λ ns. get_or ns i 0 ≤ get_or ns j 0 in
           subst N (sym (mark_levels-marks new.assignments)) (levels_rise 0 new.assignments new.level i j trail.climbs le (omega (arith, length-marks new.assignments))));
-      linked = subst L (sym (take_all (2 * length b.clauses) watches' (omega (arith, watches_len, h.sizes.two_each)))) below.linked;
-      pairs = λ i c within there. below.pairs i c there;
+      linked = below.linked;
+      pairs = below.pairs;
       watched_before = watched_below b.clauses heads' watches' new below trail;
       watched_whole = λ yes. subst W (sym (mark_lits-marks new.assignments)) (λ i c within there. whole (is_quiet yes) i c there);
     }

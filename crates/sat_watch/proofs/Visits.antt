@@ -1,7 +1,7 @@
 -- A watch that became false, its clause and the clause's other watch.
-use Rattle.std.proofs.Common.{◌≡◌, ◌≢◌, ℕ, ◌*◌, ◌/◌, ◌<◌, true, ℤ, pos, Option, Some, List, length, get_or, ap, sym, ◌∙◌, subst, arith, inl, inr}
+use Rattle.std.proofs.Common.{◌≡◌, ◌≢◌, ℕ, suc, ◌*◌, ◌/◌, ◌<◌, true, ℤ, pos, Option, None, Some, MatchOption, List, [], ◌∷◌, length, get_or, ap, sym, ◌∙◌, subst, arith, inl, inr}
 use Rattle.std.specs.List.{slice_get, All}
-use Rattle.std.proofs.lemmas.Bool.{cases_Bool}
+use Rattle.std.proofs.lemmas.Bool.{cases_Bool, or_cases}
 use Rattle.std.proofs.lemmas.Option.{slice_get-get_or, slice_get_within, get_or_from_slice_get}
 use Rattle.cnf_base.specs.Status.{same_lit, has, IsFalseIn, IsFalsifiedIn, IsUnitIn}
 use Rattle.cnf_base.proofs.Literals.{same_lit-true, same_lit-apart}
@@ -12,10 +12,38 @@ use Rattle.sat_watch.specs.declared.links.Watch.{Watch}
 use Rattle.sat_watch.specs.Book.{IsBookClause}
 use Rattle.sat_watch.specs.Kept.{IsPair, Each}
 use Rattle.sat_watch.specs.Links.{watch_lits, StandsBehind}
-use Rattle.sat_watch.specs.Watching.{sibling}
+use Rattle.sat_watch.specs.Watching.{sibling, IsFreeAt}
+use Rattle.sat_watch.proofs.Choice.{has_at}
 use Rattle.sat_watch.proofs.Pairs.{at_watch, sibling-within, lit_read}
 use Rattle.sat_watch.proofs.Watches.{IsPair-swap}
 use Rattle.sat_watch.proofs.Status.{value_false}
+
+-- where a clause has a literal
+pub has_place : (ls : List ℤ) (l : ℤ) → has ls l ≡ true → (j : ℕ) × (slice_get ls j ≡ Some l)
+has_place [] l h = cc
+has_place (m ∷ ms) l h =
+    elim (or_cases (same_lit m l) (has ms l) h) [
+      | inl e ↦ (0, ap Some (same_lit-true m l e))
+      | inr e ↦ (let later = has_place ms l e in (suc later.0, later.1))
+    ]
+
+-- another fact of the case in which nothing is found
+pub when_none : (found : Option ℕ) (A B : Type 0) (P : ℕ → Type 0) → (A → B) → MatchOption found A P → MatchOption found B P
+when_none None A B P f h = f h
+when_none (Some n) A B P f h = h
+
+-- the literal that was found, as it's read
+pub record IsFreeOf (true_lits clause : List ℤ) (other l : ℤ) : Type 0 where
+  pub inside : has clause l ≡ true
+  pub not_false : value_in true_lits l ≢ False
+  pub differs : l ≢ other
+
+pub free_of : (true_lits clause : List ℤ) (other : ℤ) (place : ℕ) (d : ℤ) → IsFreeAt true_lits clause other place → IsFreeOf true_lits clause other (get_or clause place d)
+free_of true_lits clause other place d h =
+    let P : ℤ → Type 0 = λ l. IsFreeOf true_lits clause other l in
+    let Q : ℤ → Type 0 = λ l. has clause l ≡ true in
+    let is = get_or_from_slice_get clause place h.lit d h.there in
+    subst P (sym is) (record { inside = subst Q is (has_at clause place d h.within); not_false = h.not_false; differs = h.differs })
 
 -- the clause of a watch
 pub record StandsIn (vars : ℕ) (clauses : List (List ℤ)) (watches : List Watch) (w : ℕ) (clause : List ℤ) : Type 0 where

@@ -89,7 +89,7 @@ next_is_false clauses heads watches t at y front w after h =
 -- the watch itself
 watch_there : (watches : List Watch) (w : ℕ) (y : ℤ) → slice_get (watch_lits watches) w ≡ Some y → (x : Watch) × (slice_get watches w ≡ Some x) × (x.lit ≡ y)
 watch_there watches w y is =
-    let d : Watch = record { lit = y; next = None } in
+    let d : Watch = record { lit = y; next = None; search = 0 } in
     let lt = lit_within watches w y is in
     (get_or watches w d, slice_get-get_or watches w d lt, sym (lit_read watches w d lt) ∙ get_or_from_slice_get (watch_lits watches) w y (pos 0) is)
 

@@ -70,10 +70,9 @@ pub record IsKept (b : BookState) (heads : List (Option ℕ)) (watches : List Wa
   pub number : count ≤ b.vars
   pub watched_some : watched_count ≤ length b.clauses
   pub rising : IsRising b.seen
-  -- the clauses that were looked at are linked and watched; the watches of the others wait to be chosen
-  pub linked : AreLinked heads (take (2 * watched_count) watches)
-  pub pairs : EachBefore watched_count IsPair b.clauses (watch_lits watches)
-  -- where the literals before a level are true, for each level that was seen
+  pub linked : AreLinked heads watches
+  pub pairs : Each IsPair b.clauses (watch_lits watches)
+  -- the clauses that were looked at are watched where the literals before a level are true, for each level that was seen
   pub watched_before : (place : ℕ) → place < length b.seen → BeginsLevel b.seen place
       → EachBefore watched_count (IsWatched (take place (mark_lits b.seen)) (take place (mark_lits b.seen))) b.clauses (watch_lits watches)
   -- and after Quiet under all that was seen

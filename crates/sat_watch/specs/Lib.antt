@@ -1,6 +1,8 @@
+pub mod Arena
 pub mod Book
 pub mod Kept
 pub mod Links
+pub mod Lists
 pub mod Ready
 pub mod Scanning
 pub mod Slots

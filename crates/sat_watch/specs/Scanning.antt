@@ -1,8 +1,8 @@
 -- What the parts of propagation leave.
-use Rattle.std.specs.Prelude.{◌≡◌, ◌≢◌, ℕ, cond, IsTrue, IsFalse, ℤ, neg_ℤ, Some, List, slice_get, ◌⊎◌}
+use Rattle.std.specs.Prelude.{◌≡◌, ◌≢◌, ℕ, IsTrue, IsFalse, ℤ, neg_ℤ, Some, List, slice_get, ◌⊎◌}
 use Rattle.cnf_base.specs.declared.clause_status.ClauseStatus.{ClauseStatus}
 use Rattle.cnf_base.specs.declared.clause_status.ClauseStatus.TheVariants.{Satisfied, Falsified, Unit, Unresolved}
-use Rattle.cnf_base.specs.Status.{same_lit, has, IsSatisfiedIn, IsFalsifiedIn, IsUnitIn}
+use Rattle.cnf_base.specs.Status.{has, IsSatisfiedIn, IsFalsifiedIn, IsUnitIn}
 
 -- two different literals that none of these falsifies
 pub record HasTwoFree (looked_at clause : List ℤ) : Type 0 where

@@ -1,6 +1,6 @@
 -- How watches are chosen, and what a walk along the trail keeps of them.
-use Rattle.std.specs.Prelude.{◌≡◌, ◌≢◌, ℕ, ◌+◌, ◌-◌, ◌*◌, ◌/◌, ◌%◌, ◌<◌, ◌≤◌, cond, nat_eq, IsTrue, IsFalse, ℤ, pos, neg_ℤ, ◌↔◌, Option, None, Some, List, ◌∷◌, ◌++◌, length, take, slice_get, slice_set, slice_index_or}
-use Rattle.cnf_base.specs.Status.{has, IsSatisfiedIn}
+use Rattle.std.specs.Prelude.{◌≡◌, ◌≢◌, ℕ, ◌+◌, ◌-◌, ◌/◌, ◌%◌, ◌<◌, ◌≤◌, cond, nat_eq, IsTrue, IsFalse, ℤ, pos, neg_ℤ, ◌↔◌, Option, None, Some, List, ◌∷◌, ◌++◌, length, take, slice_get, slice_set, slice_index_or}
+use Rattle.cnf_base.specs.Status.{has, IsSatisfiedIn, IsFalseIn}
 use Rattle.sat_trail.specs.declared.truth.Value.TheVariants.{False}
 use Rattle.sat_trail.specs.Trail.{Assignment, TrailState, lits, upto, value_in}
 use Rattle.sat_watch.specs.declared.links.Watch.{Watch}
@@ -35,8 +35,8 @@ pub record IsChosen (assignments : List Assignment) (clause : List ℤ) (first s
 
 -- what is known of the clauses before `watched_count`, where a trail has the literals before `start` from the look before
 pub record AreKnown (clauses : List (List ℤ)) (heads : List (Option ℕ)) (watches : List Watch) (t : TrailState) (watched_count start : ℕ) : Type 0 where
-  pub linked : AreLinked heads (take (2 * watched_count) watches)
-  pub pairs : EachBefore watched_count IsPair clauses (watch_lits watches)
+  pub linked : AreLinked heads watches
+  pub pairs : Each IsPair clauses (watch_lits watches)
   pub below : (k : ℕ) → length (upto k t.assignments) ≤ start → EachBefore watched_count (IsWatched (lits (upto k t.assignments)) (lits (upto k t.assignments))) clauses (watch_lits watches)
   pub here : EachBefore watched_count (IsWatched (take start (lits t.assignments)) (take start (lits t.assignments))) clauses (watch_lits watches)
 
@@ -59,11 +59,17 @@ pub record AreWatchedTo (clauses : List (List ℤ)) (heads : List (Option ℕ)) 
 abbrev pub sibling : ℕ → ℕ
 sibling w = cond (nat_eq (w % 2) 0) (w + 1) (w - 1)
 
--- a literal of the clause that isn't false, other than this one
-pub record IsFreeOf (true_lits clause : List ℤ) (other l : ℤ) : Type 0 where
-  pub inside : IsTrue (has clause l)
-  pub not_false : value_in true_lits l ≢ False
-  pub differs : l ≢ other
+-- the literals from one place up to another are false, but for this one
+abbrev pub AreFalseBut : List ℤ → List ℤ → ℤ → ℕ → ℕ → Type 0
+AreFalseBut true_lits clause other from to = (j : ℕ) (l : ℤ) → from ≤ j → j < to → slice_get clause j ≡ Some l → l ≢ other → IsFalseIn true_lits l
+
+-- the clause's literal at a place isn't false, and is another than this one
+pub record IsFreeAt (true_lits clause : List ℤ) (other : ℤ) (place : ℕ) : Type 0 where
+  pub within : place < length clause
+  pub lit : ℤ
+  pub there : slice_get clause place ≡ Some lit
+  pub not_false : value_in true_lits lit ≢ False
+  pub differs : lit ≢ other
 
 -- the clause at a place has a true literal
 abbrev pub IsSatisfiedAt : List (List ℤ) → List ℤ → ℕ → Type 0

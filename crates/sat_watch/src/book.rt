@@ -2,16 +2,19 @@
 
 ghost use Rattle.std.specs.Prelude.{◌≡◌, ℤ, List, ◌≤◌, ◌++◌, ◌∷◌, [], All, length, take, IsTrue, ◌↔◌, IfOk, OnOk, OnErr};
 ghost use Rattle.sat_trail.specs.Trail.{lits};
+ghost use Rattle.sat_watch.specs.Lists.{AreListsOf};
 ghost use Rattle.sat_watch.specs.Book.{IsBookClause, IsClauseOf, NoneFalseBelow, NoneUnitBelow, marks, ExtendsByUnits, ScanIs};
 
-use crate::append::append;
+use crate::append::append_watched;
+use crate::arena::Arena;
 use crate::links::{Link, Watch};
 use crate::mark::Mark;
 use crate::propagate::propagate_watches;
 use crate::scan::{Scan, is_quiet};
 use crate::seen::{first_marks, note, start_of};
+use crate::watch_lists::WatchLists;
 use cnf_base::{Clause, CnfLit};
-use ketch_base::{OutOfMemory, Sequence};
+use ketch_base::OutOfMemory;
 use sat_trail::{ClauseId, Trail};
 use std::alloc::Global;
 use std::marker::Model;
@@ -22,8 +25,7 @@ use std::marker::Model;
 #[derive(Debug, Drop)]
 pub struct ClauseBook {
     vars: u32,
-    alloc: Global,
-    clauses: Sequence<Clause>,
+    clauses: Arena,
     heads: Vec<Link>,
     watches: Vec<Watch>,
     seen: Vec<Mark>,
@@ -58,8 +60,7 @@ impl ClauseBook {
         let seen = vec![in alloc; blank; vars as usize]?;
         Ok(ClauseBook {
             vars,
-            alloc,
-            clauses: Sequence::new(alloc),
+            clauses: Arena::new(alloc),
             heads,
             watches: Vec::new(alloc),
             seen,
@@ -67,6 +68,13 @@ impl ClauseBook {
             watched_count: 0,
             quiet: true,
         })
+    }
+
+    /// Says that each clause has two literals or more, over distinct variables of the book.
+    pub fn is_well_formed(&self)
+        ensures { All (IsBookClause self.now.vars) self.now.clauses }
+    {
+        let _ = &self.vars;
     }
 
     /// The variables are 1 up to this number.
@@ -87,7 +95,7 @@ impl ClauseBook {
     pub fn is_empty(&self) -> bool
         ensures { IsTrue result ↔ (self.now.clauses ≡ []) }
     {
-        self.clauses.is_empty()
+        self.clauses.len() == 0
     }
 
     /// Adds the clause at the end. The trail is the one that is propagated.
@@ -98,14 +106,19 @@ impl ClauseBook {
         ensures ok { OnOk result (self.new ≡ record self.old { clauses = self.old.clauses ++ lits.now ∷ [] }) }
         ensures err { OnErr result (self.new ≡ self.old) }
     {
-        let _ = trail;
         let place = self.clauses.len();
-        append(self.alloc, &mut self.clauses, &mut self.watches, lits)?;
+        append_watched(
+            &mut self.clauses,
+            &mut self.heads,
+            &mut self.watches,
+            lits.as_slice(),
+            trail,
+        )?;
         Ok(ClauseId::Book(place as u64))
     }
 
     /// The id is one of those that `add` answered.
-    pub fn clause(&self, id: ClauseId) -> &Clause
+    pub fn clause(&self, id: ClauseId) -> &[CnfLit]
         requires { (c : List ℤ) × IsClauseOf self.now.clauses id c }
         ensures { IsClauseOf self.now.clauses id result.now }
     {
@@ -113,6 +126,13 @@ impl ClauseBook {
             ClauseId::Book(place) => self.clauses.get(place as usize),
             ClauseId::Unit(_) => unreachable!(),
         }
+    }
+
+    /// Which clauses watch which literals.
+    pub fn watch_lists(&self) -> WatchLists<'_>
+        ensures { AreListsOf self.now result }
+    {
+        WatchLists::new(self.vars, &self.heads, &self.watches)
     }
 
     /// Puts on the trail what its literals force, until nothing is left or a clause is false. It may be called again after
@@ -127,11 +147,11 @@ impl ClauseBook {
         ensures marked { trail.new.low ≡ length trail.new.assignments }
         ensures answer { ScanIs self.old.clauses (lits trail.new.assignments) result }
     {
-        let _ = trail.vars();
+        trail.is_well_formed();
         let low = trail.low();
         let start = start_of(first_marks(&self.seen, self.count), low, self.quiet);
         let scan = propagate_watches(
-            self.clauses.as_slice(),
+            &self.clauses,
             &mut self.heads,
             &mut self.watches,
             self.watched_count,

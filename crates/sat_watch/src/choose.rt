@@ -1,21 +1,22 @@
 //! The choice of a clause's two watches: the literals that are falsified last.
 
-ghost use Rattle.std.specs.Prelude.{◌≡◌, ◌≢◌, ℤ, List, [], ◌∷◌, ◌++◌, ◌*◌, ◌≤◌, All, MatchBool, IsFalse, length, nat_abs, take};
+ghost use Rattle.std.specs.Prelude.{◌≡◌, ◌≢◌, ℤ, List, [], ◌∷◌, ◌++◌, ◌*◌, ◌≤◌, All, MatchBool, IsFalse, IsTrue, length, nat_abs};
 ghost use Rattle.cnf_base.specs.Status.{has};
 ghost use Rattle.sat_watch.specs.Book.{IsBookClause};
-ghost use Rattle.sat_watch.specs.Kept.{EachFrom};
+ghost use Rattle.sat_watch.specs.Kept.{IsPair, Each, EachFrom};
 ghost use Rattle.sat_watch.specs.Links.{watch_lits};
 ghost use Rattle.sat_watch.specs.Watching.{IsFalseFrom, Lasts, IsChosen};
 
+use crate::arena::Arena;
 use crate::links::{Link, Watch};
-use cnf_base::{Clause, CnfLit};
+use cnf_base::CnfLit;
 use sat_trail::{Trail, Value};
 
 /// Two literals of a clause.
 #[derive(Clone, Copy)]
-struct Pair {
-    first: CnfLit,
-    second: CnfLit,
+pub struct Pair {
+    pub first: CnfLit,
+    pub second: CnfLit,
 }
 
 /// The level from which on a literal is false: none where it isn't false.
@@ -23,7 +24,7 @@ fn false_level(trail: &Trail, lit: CnfLit) -> Option<u32>
     requires { nat_abs lit ≤ trail.now.vars }
     ensures { IsFalseFrom trail.now.assignments lit result }
 {
-    let _ = trail.vars();
+    trail.is_well_formed();
     match trail.value(lit) {
         Value::False => trail.level_of(lit.var()),
         _ => None,
@@ -87,7 +88,8 @@ fn with_one_more(trail: &Trail, pair: Pair, lit: CnfLit) -> Pair
     }
 }
 
-fn choose(trail: &Trail, clause: &[CnfLit]) -> Pair
+/// The two literals of the clause that are falsified last.
+pub fn choose(trail: &Trail, clause: &[CnfLit]) -> Pair
     requires { IsBookClause trail.now.vars clause.now }
     ensures { IsChosen trail.now.assignments clause.now result.first result.second }
 {
@@ -98,19 +100,51 @@ fn choose(trail: &Trail, clause: &[CnfLit]) -> Pair
     pair
 }
 
-/// Chooses the watches of the clauses from this place on. They aren't linked yet.
-pub fn choose_from(clauses: &[Clause], watches: &mut [Watch], from: usize, trail: &Trail)
+/// Chooses the watches of all clauses. They aren't linked yet.
+pub fn choose_all(clauses: &Arena, watches: &mut [Watch], trail: &Trail)
     requires clauses { All (IsBookClause trail.now.vars) clauses.now }
     requires two_each { length watches.old ≡ 2 * length clauses.now }
-    requires from { from ≤ length clauses.now }
-    ensures others { take (2 * from) watches.new ≡ take (2 * from) watches.old }
-    ensures chosen { EachFrom from (IsChosen trail.now.assignments) clauses.now (watch_lits watches.new) }
+    ensures { Each (IsChosen trail.now.assignments) clauses.now (watch_lits watches.new) }
 {
-    for place in from..clauses.len() {
-        let pair = choose(trail, clauses[place].as_slice());
+    for place in 0..clauses.len() {
+        let pair = choose(trail, clauses.get(place));
         watches[2 * place] = unlinked(pair.first);
         watches[2 * place + 1] = unlinked(pair.second);
     }
+}
+
+/// Whether these two literals are the ones that are falsified last, and the second one first of them.
+fn are_last(trail: &Trail, clause: &[CnfLit], first: CnfLit, second: CnfLit) -> bool
+    requires clause { IsBookClause trail.now.vars clause.now }
+    requires pair { IsPair clause.now first second }
+    ensures { IsTrue result → IsChosen trail.now.assignments clause.now first second }
+{
+    if !lasts(trail, first, second) {
+        return false;
+    }
+    for lit in clause {
+        if *lit != first && !lasts(trail, second, *lit) {
+            return false;
+        }
+    }
+    true
+}
+
+/// Whether the watches of the clauses from this place on are the ones to choose where the trail has these literals.
+pub fn are_last_from(clauses: &Arena, watches: &[Watch], from: usize, trail: &Trail) -> bool
+    requires clauses { All (IsBookClause trail.now.vars) clauses.now }
+    requires two_each { length watches.now ≡ 2 * length clauses.now }
+    requires pairs { Each IsPair clauses.now (watch_lits watches.now) }
+    ensures { IsTrue result → EachFrom from (IsChosen trail.now.assignments) clauses.now (watch_lits watches.now) }
+{
+    for place in from..clauses.len() {
+        let first = watches[2 * place].lit;
+        let second = watches[2 * place + 1].lit;
+        if !are_last(trail, clauses.get(place), first, second) {
+            return false;
+        }
+    }
+    true
 }
 
 /// A watch in no list.
@@ -120,5 +154,6 @@ pub fn unlinked(lit: CnfLit) -> Watch
     Watch {
         lit,
         next: Link::none(),
+        search: 0,
     }
 }

@@ -5,7 +5,8 @@ ghost use Rattle.sat_trail.specs.Trail.{lits};
 ghost use Rattle.sat_watch.specs.Book.{IsBookClause, ExtendsByUnits};
 ghost use Rattle.sat_watch.specs.Scanning.{HasStatus, RestsAt, IsFalsifiedAt};
 
-use cnf_base::{Clause, ClauseStatus, CnfLit};
+use crate::arena::Arena;
+use cnf_base::{ClauseStatus, CnfLit};
 use sat_trail::{ClauseId, Trail, Value};
 
 /// A clause where the trail's literals are true. Two open literals are enough to know that nothing is to be done, so the
@@ -29,7 +30,7 @@ fn status_of(trail: &Trail, clause: &[CnfLit]) -> ClauseStatus
 }
 
 /// Whether the clause at this place is false. If it's unit, its literal goes on the trail.
-fn examine(clauses: &[Clause], place: usize, trail: &mut Trail) -> bool
+fn examine(clauses: &Arena, place: usize, trail: &mut Trail) -> bool
     requires in_range { place < length clauses.now }
     requires clauses { All (IsBookClause trail.old.vars) clauses.now }
     ensures by_units { ExtendsByUnits clauses.now trail.old trail.new }
@@ -37,7 +38,7 @@ fn examine(clauses: &[Clause], place: usize, trail: &mut Trail) -> bool
     ensures answer { MatchBool result (IsFalsifiedAt clauses.now (lits trail.new.assignments) place)
         (RestsAt clauses.now (lits trail.new.assignments) (lits trail.old.assignments) place) }
 {
-    match status_of(trail, clauses[place].as_slice()) {
+    match status_of(trail, clauses.get(place)) {
         ClauseStatus::Falsified => true,
         ClauseStatus::Unit(lit) => {
             trail.assume(lit, ClauseId::Book(place as u64));
@@ -49,7 +50,7 @@ fn examine(clauses: &[Clause], place: usize, trail: &mut Trail) -> bool
 }
 
 /// The first clause from this place on that is false.
-pub fn examine_from(clauses: &[Clause], from: usize, trail: &mut Trail) -> Option<usize>
+pub fn examine_from(clauses: &Arena, from: usize, trail: &mut Trail) -> Option<usize>
     requires { All (IsBookClause trail.old.vars) clauses.now }
     ensures by_units { ExtendsByUnits clauses.now trail.old trail.new }
     ensures low { trail.new.low ≡ trail.old.low }

@@ -2,6 +2,7 @@
 #![tactic(auto)]
 
 mod append;
+mod arena;
 mod begin;
 mod book;
 mod choose;
@@ -12,7 +13,9 @@ mod propagate;
 mod scan;
 mod seen;
 mod visit;
+mod watch_lists;
 
 pub use book::ClauseBook;
 pub use mark::Mark;
 pub use scan::Scan;
+pub use watch_lists::WatchLists;

@@ -56,11 +56,13 @@ impl Link {
     }
 }
 
-/// A literal that a clause watches, and the next watch of the same literal.
+/// A literal that a clause watches, the next watch of the same literal, and the place in the clause at which the last
+/// search for a literal that isn't false ended.
 #[derive(Clone, Copy, Debug)]
 pub struct Watch {
     pub lit: CnfLit,
     pub next: Link,
+    pub search: u32,
 }
 
 /// The first watch of a literal.
@@ -83,17 +85,18 @@ pub fn next_watch(watches: &[Watch], watch: u32) -> Option<u32>
 }
 
 /// Puts a watch of this literal at the front of the literal's list, where it stands in no list.
-fn link_front(heads: &mut [Link], watches: &mut [Watch], watch: u32, lit: CnfLit)
+fn link_front(heads: &mut [Link], watches: &mut [Watch], watch: u32, lit: CnfLit, search: u32)
     requires few { length watches.old < 2 ^ 32 }
     requires watch { watch < length watches.old }
     requires in_range { lit_index lit < length heads.old }
     ensures heads { heads.new ≡ slice_set heads.old (lit_index lit) (Some watch) }
-    ensures watches { watches.new ≡ slice_set watches.old watch (record { lit = lit; next = head_of heads.old lit }) }
+    ensures watches { watches.new ≡ slice_set watches.old watch (record { lit = lit; next = head_of heads.old lit; search = search }) }
 {
     let index = lit.index();
     watches[watch as usize] = Watch {
         lit,
         next: heads[index],
+        search,
     };
     heads[index] = Link::to(watch);
 }
@@ -122,17 +125,19 @@ pub fn link_from(heads: &mut [Link], watches: &mut [Watch], from: usize)
 {
     for place in from..watches.len() {
         let lit = watches[place].lit;
-        link_front(heads, watches, place as u32, lit);
+        link_front(heads, watches, place as u32, lit, 0);
     }
 }
 
-/// Takes a watch out from behind the one before it, and assignments it at the front of another literal's list.
+/// Takes a watch out from behind the one before it, and puts it at the front of another literal's list. The search for that
+/// literal ended at `search`.
 pub fn move_watch(
     heads: &mut [Link],
     watches: &mut [Watch],
     previous: Option<u32>,
     watch: u32,
     lit: CnfLit,
+    search: u32,
 )
     requires few { length watches.old < 2 ^ 32 }
     requires linked { AreLinked heads.old watches.old }
@@ -148,7 +153,7 @@ pub fn move_watch(
         → watchers heads.new watches.new l ≡ watchers heads.old watches.old l }
 {
     lead_past(heads, watches, previous, watch);
-    link_front(heads, watches, watch, lit);
+    link_front(heads, watches, watch, lit, search);
 }
 
 /// Empties all lists.

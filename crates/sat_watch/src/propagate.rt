@@ -8,17 +8,17 @@ ghost use Rattle.sat_watch.specs.Links.{watch_lits};
 ghost use Rattle.sat_watch.specs.Scanning.{IsFalsifiedAt};
 ghost use Rattle.sat_watch.specs.Watching.{IsChosen, AreKnown, AreWatchedBelow, AreWatchedTo};
 
+use crate::arena::Arena;
 use crate::begin::{Begin, watch_new};
 use crate::examine::examine_from;
 use crate::links::{Link, Watch, first_watch, next_watch};
 use crate::scan::Scan;
 use crate::visit::{Visit, visit_watch};
-use cnf_base::{Clause, CnfLit};
 use sat_trail::{ClauseId, Trail};
 
 /// Visits the watches that the trail's literal at this place makes false: the place of a clause that is false.
 fn walk_list(
-    clauses: &[Clause],
+    clauses: &Arena,
     heads: &mut [Link],
     watches: &mut [Watch],
     at: u32,
@@ -34,7 +34,7 @@ fn walk_list(
     ensures answer { MatchOption result (AreWatchedTo clauses.now heads.new watches.new trail.new (at + 1))
         (IsFalsifiedAt clauses.now (lits trail.new.assignments)) }
 {
-    let _ = trail.vars();
+    trail.is_well_formed();
     let falsified = trail.at(at).negation();
     let mut previous = None;
     let mut cursor = first_watch(heads, falsified);
@@ -51,7 +51,7 @@ fn walk_list(
 
 /// Walks along the trail from this place on: the place of a clause that is false.
 fn follow(
-    clauses: &[Clause],
+    clauses: &Arena,
     heads: &mut [Link],
     watches: &mut [Watch],
     start: u32,
@@ -79,7 +79,7 @@ fn follow(
 
 /// Looks at the new clauses, and then at the trail: the place of a clause that is false.
 fn find_false(
-    clauses: &[Clause],
+    clauses: &Arena,
     heads: &mut [Link],
     watches: &mut [Watch],
     begin: Begin,
@@ -98,7 +98,7 @@ fn find_false(
     ensures answer { MatchOption result (Each (IsWatched (lits trail.new.assignments) (lits trail.new.assignments)) clauses.now (watch_lits watches.new))
         (IsFalsifiedAt clauses.now (lits trail.new.assignments)) }
 {
-    let _ = trail.vars();
+    trail.is_well_formed();
     match examine_from(clauses, begin.clause, trail) {
         Some(place) => Some(place),
         None => follow(clauses, heads, watches, begin.literal, trail),
@@ -107,7 +107,7 @@ fn find_false(
 
 /// Propagates, where the clauses before `watched_count` are watched under the first `start` literals of the trail.
 pub fn propagate_watches(
-    clauses: &[Clause],
+    clauses: &Arena,
     heads: &mut [Link],
     watches: &mut [Watch],
     watched_count: usize,

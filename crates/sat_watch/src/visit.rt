@@ -6,10 +6,11 @@ ghost use Rattle.sat_trail.specs.Trail.{lits};
 ghost use Rattle.sat_watch.specs.Book.{IsBookClause, ExtendsByUnits};
 ghost use Rattle.sat_watch.specs.Kept.{IsPair, Each, AreSized};
 ghost use Rattle.sat_watch.specs.Links.{watch_lits, AreLinked, StandsBehind};
-ghost use Rattle.sat_watch.specs.Watching.{IsFreeOf, sibling, VisitIs};
+ghost use Rattle.sat_watch.specs.Watching.{AreFalseBut, IsFreeAt, sibling, VisitIs};
 
+use crate::arena::Arena;
 use crate::links::{Link, Watch, move_watch};
-use cnf_base::{Clause, CnfLit};
+use cnf_base::CnfLit;
 use sat_trail::{ClauseId, Trail, Value};
 
 #[derive(Clone, Copy)]
@@ -31,27 +32,49 @@ fn sibling(watch: u32) -> u32
     if watch % 2 == 0 { watch + 1 } else { watch - 1 }
 }
 
-/// A literal of the clause that isn't false, and isn't this one.
-fn find_free(trail: &Trail, clause: &[CnfLit], other: CnfLit) -> Option<CnfLit>
-    requires { All (λ l. nat_abs l ≤ trail.now.vars) clause.now }
-    ensures { MatchOption result ((l : ℤ) → IsTrue (has clause.now l) → l ≢ other → IsFalseIn (lits trail.now.assignments) l)
-        (IsFreeOf (lits trail.now.assignments) clause.now other) }
+/// The first place in a part of the clause whose literal isn't false, and isn't this one.
+fn find_between(
+    trail: &Trail,
+    clause: &[CnfLit],
+    from: usize,
+    to: usize,
+    other: CnfLit,
+) -> Option<usize>
+    requires variables { All (λ l. nat_abs l ≤ trail.now.vars) clause.now }
+    requires to { to ≤ length clause.now }
+    ensures { MatchOption result (AreFalseBut (lits trail.now.assignments) clause.now other from to)
+        (IsFreeAt (lits trail.now.assignments) clause.now other) }
 {
-    for lit in clause {
-        if *lit != other {
-            match trail.value(*lit) {
+    for place in from..to {
+        let lit = clause[place];
+        if lit != other {
+            match trail.value(lit) {
                 Value::False => {}
-                _ => return Some(*lit),
+                _ => return Some(place),
             }
         }
     }
     None
 }
 
-/// Looks at a watch that became false, in its list behind `previous`. The clause's other watch is looked at first: it
-/// stands beside this one, where the clause has memory of its own.
+/// A place whose literal isn't false, and isn't this one. The search begins at `start`, where the last one ended, and goes
+/// round: the literals before it were false then.
+fn find_free(trail: &Trail, clause: &[CnfLit], start: usize, other: CnfLit) -> Option<usize>
+    requires { All (λ l. nat_abs l ≤ trail.now.vars) clause.now }
+    ensures { MatchOption result ((l : ℤ) → IsTrue (has clause.now l) → l ≢ other → IsFalseIn (lits trail.now.assignments) l)
+        (IsFreeAt (lits trail.now.assignments) clause.now other) }
+{
+    let start = start.min(clause.len());
+    match find_between(trail, clause, start, clause.len(), other) {
+        Some(place) => Some(place),
+        None => find_between(trail, clause, 0, start, other),
+    }
+}
+
+/// Looks at a watch that became false, in its list behind `previous`. The clause's other watch is looked at first, since it
+/// stands beside this one, where the clause's literals are elsewhere in memory.
 pub fn visit_watch(
-    clauses: &[Clause],
+    clauses: &Arena,
     heads: &mut [Link],
     watches: &mut [Watch],
     previous: Option<u32>,
@@ -68,15 +91,17 @@ pub fn visit_watch(
     ensures low { trail.new.low ≡ trail.old.low }
     ensures answer { VisitIs clauses.now (lits trail.new.assignments) watch heads.old watches.old heads.new watches.new result }
 {
-    let _ = trail.vars();
+    trail.is_well_formed();
     let other = watches[sibling(watch) as usize].lit;
     let value = trail.value(other);
     if value == Value::True {
         return Visit::Kept;
     }
     let place = watch as usize / 2;
-    if let Some(lit) = find_free(trail, clauses[place].as_slice(), other) {
-        move_watch(heads, watches, previous, watch, lit);
+    let clause = clauses.get(place);
+    let start = watches[watch as usize].search as usize;
+    if let Some(at) = find_free(trail, clause, start, other) {
+        move_watch(heads, watches, previous, watch, clause[at], at as u32);
         return Visit::Moved;
     }
     if value == Value::False {

@@ -31,7 +31,7 @@ returns-in-Some c x here =
     let r = c.index-watches-watch.result in
     let z = c.index-watches-before.result in
     let p = c.in-Some.before in
-    let z1 : Watch = record { lit = (get_or watches p z).lit; next = (get_or watches c.args.watch r).next } in
+    let z1 : Watch = record { lit = (get_or watches p z).lit; next = (get_or watches c.args.watch r).next; search = (get_or watches p z).search } in
     let P : Option ℕ → Type 0 = λ o. LeadsPast heads watches x o heads (set watches p z1) in
     let read = get_or_from_slice_get watches c.args.watch x r here in
-    subst P (sym c.in-Some.is) (refl, λ y there. ap (λ (u : Watch). set watches p (record { lit = u.lit; next = (get_or watches c.args.watch r).next })) (get_or_from_slice_get watches p y z there) ∙ ap (λ (u : Watch). set watches p (record { lit = y.lit; next = u.next })) read)
+    subst P (sym c.in-Some.is) (refl, λ y there. ap (λ (u : Watch). set watches p (record { lit = u.lit; next = (get_or watches c.args.watch r).next; search = u.search })) (get_or_from_slice_get watches p y z there) ∙ ap (λ (u : Watch). set watches p (record { lit = y.lit; next = u.next; search = y.search })) read)

@@ -11,4 +11,4 @@ link_front-requires-clause-in_range c =
 pub loop-place-preserved : goal.loop-place-preserved
 loop-place-preserved c =
     let lt : c.loop-place.place < length c.loop-place.watches = omega (arith, c.loop-place-test.true, c.loop-place.auto.watches) in
-    linked_next c.loop-place.place c.loop-place.heads c.link_front.new.heads c.loop-place.watches c.link_front.new.watches (watch_lits c.args.watches.now) c.index-watches-place.result _ c.loop-place.invariant lt refl c.link_front.ensures.heads c.link_front.ensures.watches
+    linked_next c.loop-place.place c.loop-place.heads c.link_front.new.heads c.loop-place.watches c.link_front.new.watches (watch_lits c.args.watches.now) c.index-watches-place.result _ _ c.loop-place.invariant lt refl c.link_front.ensures.heads c.link_front.ensures.watches

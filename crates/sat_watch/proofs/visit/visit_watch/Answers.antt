@@ -1,5 +1,4 @@
-use Rattle.std.proofs.Common.{◌≡◌, ◌≢◌, ◌/◌, ◌<◌, ◌≤◌, true, ℤ, pos, neg_ℤ, nat_abs, Some, List, [], ◌∷◌, ◌++◌, length, get_or, refl, ap, sym, ◌∙◌, subst, rules}
-use Rattle.std.specs.List.{All}
+use Rattle.std.proofs.Common.{◌≡◌, ◌≢◌, ◌/◌, ◌<◌, true, ℤ, pos, neg_ℤ, Some, List, [], ◌∷◌, ◌++◌, length, get_or, refl, ap, sym, ◌∙◌, subst, rules}
 use Rattle.std.proofs.lemmas.Bool.{both_ways}
 use Rattle.std.proofs.lemmas.List.{get_or_default}
 use Rattle.std.proofs.lemmas.Option.{slice_get_within}
@@ -8,13 +7,13 @@ use Rattle.sat_trail.specs.declared.clause_id.ClauseId.TheVariants as ids
 use Rattle.sat_trail.specs.declared.truth.Value.TheVariants.{True, False, Unset}
 use Rattle.sat_trail.specs.Trail.{TrailState, lits}
 use Rattle.sat_watch.specs.Links.{watch_lits}
-use Rattle.sat_watch.specs.Watching.{IsFreeOf, sibling}
+use Rattle.sat_watch.specs.Watching.{sibling}
 use Rattle.sat_watch.proofs.Start.{in_vars, slot_within}
 use Rattle.sat_watch.proofs.Choice.{free_from}
 use Rattle.sat_watch.proofs.Units.{lits-append, ExtendsByUnits-one}
-use Rattle.sat_watch.proofs.Visits.{StandsIn, stands_in, stands_within, own_lit, other_lit, all_false, unit_by_others}
+use Rattle.sat_watch.proofs.Visits.{IsFreeOf, free_of, StandsIn, stands_in, stands_within, own_lit, other_lit, all_false, unit_by_others}
 use Rattle.sat_watch.proofs.Status.{in_last, value_true}
-use Rattle.sat_watch.proofs.visit.visit_watch.Goals.{After-value-value, In-Some, In_default}
+use Rattle.sat_watch.proofs.visit.visit_watch.Goals.{After-value-value, After-index-clause-at, In_default}
 use Rattle.sat_watch.proofs.visit.visit_watch.Goals as goal
 
 place_within : (c : After-value-value) → c.args.watch / 2 < length c.args.clauses.now
@@ -44,52 +43,58 @@ returns-then-eq-clause-answer c =
     let is_true : c.value-value.result ≡ True = search rules in
     (refl, refl, (clause, (in_clause k clause is).there, (other, other_in k clause is, value_true (lits c.args.trail.now.assignments) other (sym c.value-value.ensures ∙ is_true))))
 
-pub bounds-clauses-place : goal.bounds-clauses-place
-bounds-clauses-place c = place_within (goal.at.bounds-clauses-place c).After-value-value
+pub get-clause-requires : goal.get-clause-requires
+get-clause-requires c = place_within (goal.at.get-clause-requires c).After-value-value
+
+pub bounds-watches-watch : goal.bounds-watches-watch
+bounds-watches-watch c = slice_get_within c.args.watches.now c.args.watch c.requires.stands.watch c.requires.stands.here
+
+pub bounds-watches-watch-else-eq : goal.bounds-watches-watch-else-eq
+bounds-watches-watch-else-eq c = slice_get_within c.args.watches.now c.args.watch c.requires.stands.watch c.requires.stands.here
 
 pub find_free-requires : goal.find_free-requires
 find_free-requires c =
     let k = (goal.at.find_free-requires c).After-value-value in
-    let P : List ℤ → Type 0 = λ ls. All (λ l. nat_abs l ≤ c.args.trail.now.vars) ls in
-    subst P (sym c.as_slice.ensures) (λ i d lt. ((in_clause k c.index-clauses-place.result c.index-clauses-place.is).book.in_range i d lt).variable)
+    λ i d lt. ((in_clause k c.get-clause.result.now c.get-clause.ensures.clause).book.in_range i d lt).variable
 
--- what was found, in the clause itself
-found : (c : In-Some) → IsFreeOf (lits c.args.trail.now.assignments) c.index-clauses-place.result (get_or c.args.watches.now c.sibling.result c.index-watches-sibling.result).lit c.in-Some.lit
+-- what was found, as it's read
+found : (c : After-index-clause-at) → IsFreeOf (lits c.args.trail.now.assignments) c.get-clause.result.now (get_or c.args.watches.now c.sibling.result c.index-watches-sibling.result).lit c.index-clause-at.result
 found c =
-    let P : List ℤ → Type 0 = λ ls. IsFreeOf (lits c.args.trail.now.assignments) ls (get_or c.args.watches.now c.sibling.result c.index-watches-sibling.result).lit c.in-Some.lit in
-    subst P c.as_slice.ensures c.in-Some.ensures
+    let true_lits = lits c.args.trail.now.assignments in
+    let clause = c.get-clause.result.now in
+    let other = (get_or c.args.watches.now c.sibling.result c.index-watches-sibling.result).lit in
+    let P : ℤ → Type 0 = λ l. IsFreeOf true_lits clause other l in
+    subst P (sym c.index-clause-at.is) (free_of true_lits clause other c.in-Some.at c.index-clause-at.result c.in-Some.ensures)
 
-nothing_found : (c : In_default) → (l : ℤ) → has c.index-clauses-place.result l ≡ true → l ≢ (get_or c.args.watches.now c.sibling.result c.index-watches-sibling.result).lit → IsFalseIn (lits c.args.trail.now.assignments) l
-nothing_found c =
-    let P : List ℤ → Type 0 = λ ls. (l : ℤ) → has ls l ≡ true → l ≢ (get_or c.args.watches.now c.sibling.result c.index-watches-sibling.result).lit → IsFalseIn (lits c.args.trail.now.assignments) l in
-    subst P c.as_slice.ensures c.in_default.ensures
+nothing_found : (c : In_default) → (l : ℤ) → has c.get-clause.result.now l ≡ true → l ≢ (get_or c.args.watches.now c.sibling.result c.index-watches-sibling.result).lit → IsFalseIn (lits c.args.trail.now.assignments) l
+nothing_found c = c.in_default.ensures
 
 pub move_watch-requires-clause-in_range : goal.move_watch-requires-clause-in_range
 move_watch-requires-clause-in_range c =
     let k = goal.at.move_watch-requires-clause-in_range c in
-    let clause = c.index-clauses-place.result in
-    let here = in_clause k.After-value-value clause c.index-clauses-place.is in
-    slot_within c.args.trail.now.vars clause c.in-Some.lit c.args.heads.now c.requires.sizes.heads_room here.book (found k.In-Some).inside
+    let clause = c.get-clause.result.now in
+    let here = in_clause k.After-value-value clause c.get-clause.ensures.clause in
+    slot_within c.args.trail.now.vars clause c.index-clause-at.result c.args.heads.now c.requires.sizes.heads_room here.book (found k.After-index-clause-at).inside
 
 pub move_watch-requires-clause-other : goal.move_watch-requires-clause-other
 move_watch-requires-clause-other c x here same =
     let k = goal.at.move_watch-requires-clause-other c in
     let true_lits = lits c.args.trail.now.assignments in
     let P : ℤ → Type 0 = λ l. has true_lits (neg_ℤ l) ≡ true in
-    let free = free_from c.args.trail.now c.in-Some.lit c.vars.ensures.well_formed (found k.In-Some).not_false in
-    both_ways (has true_lits (neg_ℤ c.in-Some.lit)) free (subst P (own_lit c.args.watches.now c.args.watch x here ∙ sym same) c.requires.falsified)
+    let free = free_from c.args.trail.now c.index-clause-at.result c.is_well_formed.ensures (found k.After-index-clause-at).not_false in
+    both_ways (has true_lits (neg_ℤ c.index-clause-at.result)) free (subst P (own_lit c.args.watches.now c.args.watch x here ∙ sym same) c.requires.falsified)
 
 pub returns-in-Some-clause-answer : goal.returns-in-Some-clause-answer
 returns-in-Some-clause-answer c =
     let k = goal.at.returns-in-Some-clause-answer c in
-    let clause = c.index-clauses-place.result in
-    let f = found k.In-Some in
+    let clause = c.get-clause.result.now in
+    let f = found k.After-index-clause-at in
     record {
       clause = clause;
-      is_clause = (in_clause k.After-value-value clause c.index-clauses-place.is).there;
-      lit = c.in-Some.lit;
+      is_clause = (in_clause k.After-value-value clause c.get-clause.ensures.clause).there;
+      lit = c.index-clause-at.result;
       inside = f.inside;
-      free = free_from c.args.trail.now c.in-Some.lit c.vars.ensures.well_formed f.not_false;
+      free = free_from c.args.trail.now c.index-clause-at.result c.is_well_formed.ensures f.not_false;
       differs = λ e. f.differs (e ∙ other_is k.After-value-value);
       linked = c.move_watch.ensures.linked;
       moved = c.move_watch.ensures.lits;
@@ -99,32 +104,32 @@ returns-in-Some-clause-answer c =
 pub returns-then-eq-2-clause-answer : goal.returns-then-eq-2-clause-answer
 returns-then-eq-2-clause-answer c =
     let k = goal.at.returns-then-eq-2-clause-answer c in
-    let clause = c.index-clauses-place.result in
+    let clause = c.get-clause.result.now in
     let other = (get_or c.args.watches.now c.sibling.result c.index-watches-sibling.result).lit in
     let is_false : c.value-value.result ≡ False = search rules in
-    (refl, refl, (clause, (in_clause k.After-value-value clause c.index-clauses-place.is).there, all_false (lits c.args.trail.now.assignments) clause other (sym c.value-value.ensures ∙ is_false) (nothing_found k.In_default)))
+    (refl, refl, (clause, (in_clause k.After-value-value clause c.get-clause.ensures.clause).there, all_false (lits c.args.trail.now.assignments) clause other (sym c.value-value.ensures ∙ is_false) (nothing_found k.In_default)))
 
 pub assume-requires-clause-in_range : goal.assume-requires-clause-in_range
 assume-requires-clause-in_range c =
     let k = goal.at.assume-requires-clause-in_range c in
-    let clause = c.index-clauses-place.result in
-    let here = in_clause k.After-value-value clause c.index-clauses-place.is in
-    in_vars c.args.trail.now.vars clause (get_or c.args.watches.now c.sibling.result c.index-watches-sibling.result).lit here.book (other_in k.After-value-value clause c.index-clauses-place.is)
+    let clause = c.get-clause.result.now in
+    let here = in_clause k.After-value-value clause c.get-clause.ensures.clause in
+    in_vars c.args.trail.now.vars clause (get_or c.args.watches.now c.sibling.result c.index-watches-sibling.result).lit here.book (other_in k.After-value-value clause c.get-clause.ensures.clause)
 
 pub returns-clause-by_units : goal.returns-clause-by_units
 returns-clause-by_units c =
     let k = goal.at.returns-clause-by_units c in
-    let clause = c.index-clauses-place.result in
+    let clause = c.get-clause.result.now in
     let other = (get_or c.args.watches.now c.sibling.result c.index-watches-sibling.result).lit in
     let is_open : c.value-value.result ≡ Unset = search rules in
-    let unit = unit_by_others (lits c.args.trail.now.assignments) clause other (other_in k.After-value-value clause c.index-clauses-place.is) (sym c.value-value.ensures ∙ is_open) (nothing_found k.In_default) in
-    ExtendsByUnits-one c.args.clauses.now c.args.trail.now c.assume.new.self (c.args.watch / 2) clause other (in_clause k.After-value-value clause c.index-clauses-place.is).there unit c.assume.ensures
+    let unit = unit_by_others (lits c.args.trail.now.assignments) clause other (other_in k.After-value-value clause c.get-clause.ensures.clause) (sym c.value-value.ensures ∙ is_open) (nothing_found k.In_default) in
+    ExtendsByUnits-one c.args.clauses.now c.args.trail.now c.assume.new.self (c.args.watch / 2) clause other (in_clause k.After-value-value clause c.get-clause.ensures.clause).there unit c.assume.ensures
 
 pub returns-clause-answer : goal.returns-clause-answer
 returns-clause-answer c =
     let k = goal.at.returns-clause-answer c in
-    let clause = c.index-clauses-place.result in
+    let clause = c.get-clause.result.now in
     let other = (get_or c.args.watches.now c.sibling.result c.index-watches-sibling.result).lit in
     let P : List ℤ → Type 0 = λ ls. has ls other ≡ true in
     let after : lits c.assume.new.self.assignments ≡ lits c.args.trail.now.assignments ++ other ∷ [] = ap (λ (t : TrailState). lits t.assignments) c.assume.ensures ∙ lits-append c.args.trail.now.assignments (record { lit = other; level = c.args.trail.now.level; reason = Some (ids.Book (c.args.watch / 2)) } ∷ []) in
-    (refl, refl, (clause, (in_clause k.After-value-value clause c.index-clauses-place.is).there, (other, other_in k.After-value-value clause c.index-clauses-place.is, subst P (sym after) (in_last (lits c.args.trail.now.assignments) other))))
+    (refl, refl, (clause, (in_clause k.After-value-value clause c.get-clause.ensures.clause).there, (other, other_in k.After-value-value clause c.get-clause.ensures.clause, subst P (sym after) (in_last (lits c.args.trail.now.assignments) other))))

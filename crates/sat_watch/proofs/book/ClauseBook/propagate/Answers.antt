@@ -1,13 +1,11 @@
-use Rattle.std.proofs.Common.{◌≡◌, ℕ, ◌≤◌, ◌++◌, ℤ, Option, List, length, take, drop, ap, sym, ◌∙◌, subst, arith}
+use Rattle.std.proofs.Common.{◌≡◌, ℕ, ◌≤◌, ◌++◌, Option, List, length, take, drop, ap, sym, ◌∙◌, subst, arith}
 use Rattle.std.proofs.lemmas.List.{with_items_is}
 use Rattle.sat_trail.specs.Trail.{TrailState, lits}
 use Rattle.sat_watch.specs.declared.links.Watch.{Watch}
 use Rattle.sat_watch.specs.declared.mark.Mark.{Mark}
-use Rattle.sat_watch.specs.declared.scan.Scan.TheVariants.{Quiet}
 use Rattle.sat_watch.specs.Book.{BookState, marks, NoneFalseBelow, NoneUnitBelow, ScanIs}
-use Rattle.sat_watch.specs.Kept.{IsWatched, Each, IsStart, IsKept}
-use Rattle.sat_watch.specs.Links.{watch_lits}
-use Rattle.sat_watch.specs.Watching.{AreKnown, AreWatchedBelow}
+use Rattle.sat_watch.specs.Kept.{IsStart, IsKept}
+use Rattle.sat_watch.specs.Watching.{AreKnown}
 use Rattle.sat_watch.proofs.SeenTrail.{known_at_start, seen_after, IsKept-after}
 use Rattle.sat_watch.proofs.book.ClauseBook.propagate.Goals as goal
 
@@ -21,23 +19,20 @@ propagate_watches-scan-requires-clause-known c =
     let marks_are : c.first_marks.result.now ≡ b.seen = c.first_marks.ensures ∙ ap (take s.count) c.deref.ensures.value in
     let S : List Mark → Type 0 = λ ms. IsStart ms s.quiet c.start_of-start.result in
     let le : c.start_of-start.result ≤ t.low = omega (arith, c.start_of-start.ensures.at_most, c.low-low.ensures.value) in
-    let known = known_at_start b s.heads.items s.watches.items s.seen.items s.count s.watched_count s.quiet t c.start_of-start.result c.self.invariant c.vars.ensures.well_formed agrees le (subst S marks_are c.start_of-start.ensures.start) in
-    let C : List (List ℤ) → Type 0 = λ cs. AreKnown cs c.deref_mut.result.now c.deref_mut-2.result.now t s.watched_count c.start_of-start.result in
+    let known = known_at_start b s.heads.items s.watches.items s.seen.items s.count s.watched_count s.quiet t c.start_of-start.result c.self.invariant c.is_well_formed.ensures agrees le (subst S marks_are c.start_of-start.ensures.start) in
     let H : List (Option ℕ) → Type 0 = λ hs. AreKnown s.clauses hs c.deref_mut-2.result.now t s.watched_count c.start_of-start.result in
     let W : List Watch → Type 0 = λ ws. AreKnown s.clauses s.heads.items ws t s.watched_count c.start_of-start.result in
-    subst C (sym c.as_slice.ensures) (subst H (sym c.deref_mut.ensures.value) (subst W (sym c.deref_mut-2.ensures.value) known))
+    subst H (sym c.deref_mut.ensures.value) (subst W (sym c.deref_mut-2.ensures.value) known)
 
 pub propagate_watches-scan-requires-clause-none_false : goal.propagate_watches-scan-requires-clause-none_false
 propagate_watches-scan-requires-clause-none_false c =
     let B : BookState → Type 0 = λ b. NoneFalseBelow b.clauses c.args.trail.now in
-    let C : List (List ℤ) → Type 0 = λ cs. NoneFalseBelow cs c.args.trail.now in
-    subst C (sym c.as_slice.ensures) (subst B (sym c.self.view_is) c.requires.none_false)
+    subst B (sym c.self.view_is) c.requires.none_false
 
 pub propagate_watches-scan-requires-clause-none_unit : goal.propagate_watches-scan-requires-clause-none_unit
 propagate_watches-scan-requires-clause-none_unit c =
     let B : BookState → Type 0 = λ b. NoneUnitBelow b.clauses c.args.trail.now in
-    let C : List (List ℤ) → Type 0 = λ cs. NoneUnitBelow cs c.args.trail.now in
-    subst C (sym c.as_slice.ensures) (subst B (sym c.self.view_is) c.requires.none_unit)
+    subst B (sym c.self.view_is) c.requires.none_unit
 
 seen_is : (c : goal.After-mark) → take c.len-count.result (take c.self.inside.seen.len (c.note.new.seen ++ drop (length c.note.new.seen) c.self.inside.seen.items)) ≡ marks c.propagate_watches-scan.new.trail.assignments
 seen_is c =
@@ -60,12 +55,10 @@ kept c =
     let b : BookState = record { vars = s.vars; clauses = s.clauses; seen = take s.count s.seen.items } in
     let new = c.propagate_watches-scan.new.trail in
     let V : BookState → Type 0 = λ x. c.args.trail.now.vars ≡ x.vars in
-    let A : List (List ℤ) → Type 0 = λ cs. AreWatchedBelow cs c.propagate_watches-scan.new.heads c.propagate_watches-scan.new.watches new in
-    let Q : List (List ℤ) → Type 0 = λ cs. c.propagate_watches-scan.result ≡ Quiet → Each (IsWatched (lits new.assignments) (lits new.assignments)) cs (watch_lits c.propagate_watches-scan.new.watches) in
     IsKept-after b s.heads.items c.propagate_watches-scan.new.heads s.watches.items c.propagate_watches-scan.new.watches s.seen.items c.note.new.seen s.count s.watched_count s.quiet c.is_quiet-self-inside.result new c.propagate_watches-scan.result c.self.invariant
     (c.propagate_watches-scan.ensures.by_units.vars ∙ subst V (sym c.self.view_is) c.requires.vars) c.len-count.ensures.well_formed (omega (arith, c.len-count.ensures.value, c.len-count.ensures.at_most))
     (c.note.auto.seen ∙ ap length c.deref_mut-3.ensures.value) (c.propagate_watches-scan.auto.heads ∙ ap length c.deref_mut.ensures.value) (c.propagate_watches-scan.auto.watches ∙ ap length c.deref_mut-2.ensures.value)
-    (subst A c.as_slice.ensures c.propagate_watches-scan.ensures.below) (subst Q c.as_slice.ensures c.propagate_watches-scan.ensures.watched) c.is_quiet-self-inside.ensures.0
+    c.propagate_watches-scan.ensures.below c.propagate_watches-scan.ensures.watched c.is_quiet-self-inside.ensures.0
 
 pub invariant_of-self : goal.invariant_of-self
 invariant_of-self c =
@@ -97,7 +90,6 @@ returns-clause-book c =
 
 pub returns-clause-answer : goal.returns-clause-answer
 returns-clause-answer c =
-    let A : List (List ℤ) → Type 0 = λ cs. ScanIs cs (lits c.propagate_watches-scan.new.trail.assignments) c.propagate_watches-scan.result in
     let B : BookState → Type 0 = λ b. ScanIs b.clauses (lits c.propagate_watches-scan.new.trail.assignments) c.propagate_watches-scan.result in
     let T : TrailState → Type 0 = λ t. ScanIs c.args.self.now.clauses (lits t.assignments) c.propagate_watches-scan.result in
-    subst T (sym c.mark.ensures) (subst B c.self.view_is (subst A c.as_slice.ensures c.propagate_watches-scan.ensures.answer))
+    subst T (sym c.mark.ensures) (subst B c.self.view_is c.propagate_watches-scan.ensures.answer)
