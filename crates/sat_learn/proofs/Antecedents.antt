@@ -13,7 +13,7 @@ use Rattle.sat_learn.specs.Reasons.{IsReason}
 use Rattle.sat_learn.specs.Resolving.{StandsAt, IsExplained, IsAntecedent}
 use Rattle.sat_learn.proofs.Assignments.{assignment_found, assignment_finds, reason_at}
 
--- the literal at a place is that of its put
+-- the literal at a place is that of its assignment
 pub lit_at : (ps : List Assignment) (place : ℕ) (p : Assignment) (lit : ℤ) → StandsAt ps place p → lit ≡ get_or (lits ps) place lit → lit ≡ p.lit
 lit_at ps place p lit there is =
     let found : slice_get (lits ps) place ≡ Some p.lit = slice_get-map (λ (q : Assignment). q.lit) ps place ∙ ap (option_map (λ (q : Assignment). q.lit)) there in

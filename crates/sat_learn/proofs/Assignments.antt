@@ -1,4 +1,4 @@
--- Puts at their places.
+-- Assignments at their places.
 use Rattle.std.proofs.Common.{◌≡◌, ℕ, zero, suc, ◌+◌, ◌<◌, ◌≤◌, true, false, ◌||◌, cond, eqb, leb, ℤ, pos, negsuc, neg_ℤ, nat_abs, Option, Some, None, List, [], ◌∷◌, ◌++◌, length, map, take, refl, ap, sym, ◌∙◌, subst, arith, inl, inr}
 use Rattle.std.specs.List.{IsDistinct, AllByRecursion, slice_get}
 use Rattle.std.proofs.lemmas.Bool.{cases_Bool, or_cases, or_right, eqb-false, eq-eqb, le-leb, leb-true}
@@ -90,7 +90,7 @@ true_upto k (q ∷ ps) l h =
           let found = true_upto k ps l rest in (suc found.0, found.1, found.2, found.3, found.4))
     ]
 
--- ---- the put of a variable
+-- ---- the assignment of a variable
 
 pub assignment_found : (var : ℕ) (ps : List Assignment) (p : Assignment) → assignment_of var ps ≡ Some p → (i : ℕ) × StandsAt ps i p
 assignment_found var [] p h = cc
@@ -234,7 +234,7 @@ one_way t h both =
     let own : neg_ℤ l ≡ l = sym q.3 ∙ ap (λ (r : Assignment). r.lit) (sym same) ∙ p.3 in
     (true_literal t l h both.1).not_zero (own_negation l own)
 
--- the put by which a literal is false
+-- the assignment by which a literal is false
 pub assignment_of_false : (t : TrailState) (l : ℤ) (var : ℕ) → IsTrail t → has (lits t.assignments) (neg_ℤ l) ≡ true → var ≡ nat_abs l → (i : ℕ) × (p : Assignment) × StandsAt t.assignments i p × (p.lit ≡ neg_ℤ l) × (assignment_of var t.assignments ≡ Some p)
 assignment_of_false t l var h false_now is =
     let found = assignment_there t.assignments (neg_ℤ l) false_now in

@@ -20,7 +20,7 @@ use Rattle.sat_learn.proofs.ResolveStep.{any_from}
 pub all_below : (ps : List Assignment) (marks : List Bool) (n : ℕ) → n ≡ length ps → AreBelow ps marks n
 all_below ps marks n is i p there marked = let lt = slice_get_within ps i p there in omega arith
 
--- the put of a kept literal
+-- the assignment of a kept literal
 kept_assignment : (t : TrailState) (i : ℕ) (p : Assignment) → IsTrail t → StandsAt t.assignments i p → (h : IsBetween t (neg_ℤ p.lit)) → p.level ≡ h.level
 kept_assignment t i p trail there h =
     let same : p ≡ h.false_at.assignment = one_assignment t i h.false_at.place p h.false_at.assignment trail there h.false_at.stands (ap nat_abs (sym (h.false_at.negated ∙ neg_ℤ-neg_ℤ p.lit))) in

@@ -189,7 +189,7 @@ found_next clauses proof_ids assignments ls l a b c x y z inside h k =
 differs_from : (l m : ℤ) (p : Assignment) → p.lit ≡ neg_ℤ l → (nat_abs m ≡ nat_abs l → ⊥) → m ≡ p.lit → ⊥
 differs_from l m p negated differs same = differs (ap nat_abs (same ∙ negated) ∙ nat_abs-neg_ℤ l)
 
--- the put of a false literal whose variable isn't marked, where its antecedent is known
+-- the assignment that makes a literal false whose variable isn't marked, where its antecedent is known
 pub record IsAssigned (clauses : List (List ℤ)) (proof_ids : List ℕ) (t : TrailState) (marks : List Bool) (l : ℤ) (antecedent : List ℤ) (hint : ℤ) : Type 0 where
   pub unmarked : is_marked marks l ≡ false
   pub assignment : Assignment
@@ -215,7 +215,7 @@ pub false_below : (clauses : List (List ℤ)) (proof_ids : List ℕ) (t : TrailS
 false_below clauses proof_ids t marks l m antecedent hint h x inside differs =
     before_true t.assignments x.place (neg_ℤ m) (x.antecedent_is.false_before m inside (differs_from l m x.assignment x.negated differs))
 
--- where the literal is known at a place, its put stands before
+-- where the literal is known at a place, its assignment stands before
 assignment_before : (clauses : List (List ℤ)) (proof_ids : List ℕ) (t : TrailState) (marks : List Bool) (l : ℤ) (antecedent : List ℤ) (hint : ℤ) (place : ℕ) → IsTrail t → (x : IsAssigned clauses proof_ids t marks l antecedent hint) → AreKnownAt t.assignments marks place (l ∷ []) → x.place < place
 assignment_before clauses proof_ids t marks l antecedent hint place h x known =
     elim (known l (has-head l [])) [

@@ -1,5 +1,5 @@
 -- The learned clause from what is marked in the end.
-use Rattle.std.proofs.Common.{◌≡◌, ℕ, ◌+◌, ◌<◌, ◌≤◌, max, Bool, true, false, cond, eqb, ℤ, neg_ℤ, nat_abs, List, [], ◌∷◌, ◌++◌, ◌⊎◌, length, map, take, get_or, refl, ap, sym, ◌∙◌, subst, arith, inl, inr}
+use Rattle.std.proofs.Common.{◌≡◌, ℕ, ◌+◌, ◌<◌, ◌≤◌, max, Bool, true, false, cond, eqb, ℤ, neg_ℤ, nat_abs, List, [], ◌∷◌, ◌++◌, length, map, take, get_or, refl, ap, sym, ◌∙◌, subst, arith, inl, inr}
 use Rattle.std.specs.List.{list_any, IsDistinct}
 use Rattle.std.proofs.lemmas.Bool.{cases_lt, cases_Bool, or_cases, or_left, or_right, or_parts, both_ways, eq-eqb, false_from_ne_true}
 use Rattle.std.proofs.lemmas.List.{take_more}
@@ -12,24 +12,12 @@ use Rattle.sat_learn.specs.Reasons.{Follows}
 use Rattle.sat_trail.specs.Trail.{Assignment, TrailState, IsTrail, lits, upto}
 use Rattle.sat_trail.proofs.LiteralValues.{each_from}
 use Rattle.sat_learn.specs.Learned.{AreAtRoot, IsLearned}
-use Rattle.sat_learn.specs.Resolving.{is_marked, StandsAt, Refutes, IsFalseAt}
-use Rattle.sat_learn.specs.Tracking.{IsGreatestLevel}
+use Rattle.sat_learn.specs.Resolving.{is_marked, Refutes, IsFalseAt}
+use Rattle.sat_learn.specs.Tracking.{IsGreatestLevel, IsResolved}
 use Rattle.sat_learn.proofs.Assignments.{assignment_there, one_assignment, false_at_one, true_by, upto_true, true_upto, true_literal}
 use Rattle.sat_learn.proofs.Refutation.{refutes_end}
 use Rattle.sat_learn.proofs.MarkedLiterals.{has_at}
 use Rattle.sat_learn.proofs.Tracking.{any_var}
-
--- one literal of the present level is marked, at this place, and beside it those that are kept, each variable once
-pub record IsResolved (t : TrailState) (marks : List Bool) (kept : List ℤ) (place : ℕ) (first : ℤ) : Type 0 where
-  pub room : length marks ≡ t.vars + 1
-  pub above : 0 < t.level
-  pub assignment : Assignment
-  pub stands : StandsAt t.assignments place assignment
-  pub at_level : assignment.level ≡ t.level
-  pub negated : first ≡ neg_ℤ assignment.lit
-  pub marked : (v : ℕ) → get_or marks v false ≡ true → (nat_abs assignment.lit ≡ v) ⊎ (list_any (eqb v) (map nat_abs kept) ≡ true)
-  pub kept_false : (l : ℤ) → has kept l ≡ true → (level : ℕ) × IsFalseAt t.assignments l level × (0 < level) × (level < t.level)
-  pub distinct : IsDistinct eqb (map nat_abs kept)
 
 -- ---- false literals
 

@@ -6,9 +6,11 @@ pub mod Explanations
 pub mod MarkedLiterals
 pub mod Tracking
 pub mod ResolveStep
+pub mod Steps
 pub mod RootLevel
 pub mod LearnedLiterals
 pub mod Conflicts
 pub mod Reasons
 pub mod Taken
 pub mod Minimization
+pub mod Visits

@@ -112,10 +112,10 @@ false_in_range t marks l h room false_now =
     let same = nat_abs-neg_ℤ l in
     omega arith
 
--- ---- nothing is marked
+-- ---- a list of one value alone
 
-pub unmarked_is : (marks : List Bool) (n : ℕ) → length marks ≡ n → ((v : ℕ) → get_or marks v false ≡ false) → marks ≡ replicate n false
-unmarked_is marks n len none =
-    same_lists marks (replicate n false) (len ∙ sym (length-replicate n false)) (λ k d lt.
+pub replicate_is : {A : Type 0} (xs : List A) (n : ℕ) (a : A) → length xs ≡ n → ((i : ℕ) → get_or xs i a ≡ a) → xs ≡ replicate n a
+replicate_is xs n a len each =
+    same_lists xs (replicate n a) (len ∙ sym (length-replicate n a)) (λ k d lt.
     let within : k < n = omega arith in
-    get_or_default marks k d false lt ∙ none k ∙ sym (get_or-replicate n k false d within))
+    get_or_default xs k d a lt ∙ each k ∙ sym (get_or-replicate n k a d within))

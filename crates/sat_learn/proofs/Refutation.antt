@@ -6,7 +6,7 @@ use Rattle.cnf_base.proofs.Literals.{same_lit-true, has-head, has-append, nat_ab
 use Rattle.lrat_text.specs.Standing.{clause_at}
 use Rattle.lrat_text.specs.Accepted.{Ends, IsBothWays}
 use Rattle.sat_trail.specs.Trail.{Assignment, TrailState, IsTrail, lits}
-use Rattle.sat_learn.specs.Reasons.{HasId, HaveIds, IsLiveHint, Follows}
+use Rattle.sat_learn.specs.Reasons.{HasId, HaveIds, Follows}
 use Rattle.sat_learn.specs.Resolving.{is_marked, EndsUnder, Refutes, IsAntecedent}
 use Rattle.sat_learn.proofs.Assignments.{one_way}
 

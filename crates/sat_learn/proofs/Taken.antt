@@ -11,10 +11,9 @@ use Rattle.cnf_base.specs.Status.{same_lit, has}
 use Rattle.cnf_base.proofs.Literals.{same_lit-true, or-false, has-append, nat_abs-neg_ℤ}
 use Rattle.sat_trail.specs.Trail.{TrailState}
 use Rattle.sat_learn.specs.Resolving.{is_marked}
-use Rattle.sat_learn.specs.Tracking.{IsMinimized, IsTaken}
+use Rattle.sat_learn.specs.Tracking.{IsMinimized, IsTaken, IsResolved}
 use Rattle.sat_learn.proofs.MarkedLiterals.{any_push}
 use Rattle.sat_learn.proofs.Tracking.{any_var}
-use Rattle.sat_learn.proofs.LearnedLiterals.{IsResolved}
 
 has_any : (ls : List ℤ) (l : ℤ) → has ls l ≡ list_any (λ m. same_lit m l) ls
 has_any [] l = refl

@@ -1,14 +1,16 @@
 -- How the marks stay tracked while a conflict is resolved.
-use Rattle.std.proofs.Common.{◌≡◌, ℕ, ◌+◌, ◌-◌, ◌<◌, Bool, true, false, ◌&&◌, eqb, ℤ, neg_ℤ, nat_abs, List, [], ◌∷◌, ◌++◌, length, map, set, get_or, ◌⊎◌, refl, ap, sym, ◌∙◌, subst, arith, inl, inr}
+use Rattle.std.proofs.Common.{◌≡◌, ℕ, ◌+◌, ◌-◌, ◌^◌, ◌<◌, ◌≤◌, Bool, true, false, ◌&&◌, eqb, ℤ, neg_ℤ, nat_abs, List, [], ◌∷◌, ◌++◌, length, map, set, get_or, ◌⊎◌, refl, ap, sym, ◌∙◌, subst, arith, inl, inr}
 use Rattle.std.specs.List.{list_any, count_by}
 use Rattle.std.proofs.lemmas.Bool.{cases_eq, cases_lt, eqb-true, ne_eqb, or_cases, or_left, or_right, and_right, and_left, both_ways}
-use Rattle.std.proofs.lemmas.List.{length-set, get_or-set_same, get_or-set_other}
+use Rattle.std.proofs.lemmas.Map.Steps.{length-le_from_distinct_below}
+use Rattle.std.proofs.lemmas.List.Sums.{count_by-le-length}
+use Rattle.std.proofs.lemmas.List.{length-map, length-set, get_or-set_same, get_or-set_other}
 use Rattle.cnf_base.specs.Status.{same_lit, has}
 use Rattle.cnf_base.proofs.Literals.{same_lit-true, has-head, has-append, neg_ℤ-neg_ℤ, nat_abs-neg_ℤ}
-use Rattle.sat_trail.specs.Trail.{Assignment, TrailState, IsTrail}
+use Rattle.sat_trail.specs.Trail.{Assignment, TrailState, IsTrail, lits}
 use Rattle.sat_learn.specs.Resolving.{is_marked, StandsAt, IsFalseAt}
 use Rattle.sat_learn.specs.Tracking.{is_open, IsFiled, IsBetween, IsTracked}
-use Rattle.sat_learn.proofs.Assignments.{one_place, one_assignment}
+use Rattle.sat_learn.proofs.Assignments.{one_place, one_assignment, true_literal}
 use Rattle.sat_learn.proofs.Counts.{count_found, count_same, count_one_more}
 use Rattle.sat_learn.proofs.MarkedLiterals.{open_parts, open_from}
 
@@ -20,6 +22,25 @@ any_var v (m ∷ ms) h =
       | inl e ↦ (m, has-head m ms, sym (eqb-true v (nat_abs m) e))
       | inr e ↦ (let found = any_var v ms e in (found.0, or_right (same_lit m found.0) (has ms found.0) found.1, found.2))
     ]
+
+-- a trail's literals are no more than its variables, and 0
+few_assigned : (t : TrailState) → IsTrail t → length t.assignments ≤ t.vars + 1
+few_assigned t h =
+    let size : length (map nat_abs (lits t.assignments)) ≡ length t.assignments = length-map (lits t.assignments) nat_abs ∙ length-map t.assignments (λ (p : Assignment). p.lit) in
+    let bound = length-le_from_distinct_below (map nat_abs (lits t.assignments)) (t.vars + 1) h.distinct (λ q k.
+    let found = any_var q (lits t.assignments) k in
+    let within = (true_literal t found.0 h found.1).variable in
+    let same = found.2 in
+    omega arith) in
+    omega arith
+
+-- so one more can be counted
+pub open_few : (t : TrailState) (marks : List Bool) (number : ℕ) → IsTrail t → number ≡ count_by (is_open t.level marks) t.assignments → number < 2 ^ 32 - 1
+open_few t marks number h is =
+    let few = few_assigned t h in
+    let vars = h.few_vars in
+    let most = count_by-le-length (is_open t.level marks) t.assignments in
+    omega arith
 
 -- ---- one mark
 
@@ -34,7 +55,7 @@ still_marked marks var l room h =
       | inr e ↦ kept_mark marks var true l e ∙ h
     ]
 
--- the count goes by the changed variable's put alone
+-- the count goes by the changed variable's assignment alone
 open_elsewhere : (t : TrailState) (marks : List Bool) (var : ℕ) (b : Bool) (i : ℕ) (p : Assignment) (level : ℕ) → IsTrail t → StandsAt t.assignments i p → nat_abs p.lit ≡ var → (j : ℕ) (q : Assignment) → StandsAt t.assignments j q → (j ≡ i → ⊥) → is_open level (set marks var b) q ≡ is_open level marks q
 open_elsewhere t marks var b i p level h there of_var j q here differs =
     ap (λ m. m && eqb q.level level) (kept_mark marks var b q.lit (λ e. differs (one_place t.assignments j i q p h.distinct here there (e ∙ sym of_var))))

@@ -1,5 +1,7 @@
 pub mod Explaining
 pub mod Learned
+pub mod Premises
 pub mod Reasons
 pub mod Resolving
 pub mod Tracking
+pub mod Visiting

@@ -9,7 +9,7 @@ use Rattle.sat_trail.specs.declared.clause_id.ClauseId.{ClauseId}
 use Rattle.sat_trail.specs.declared.clause_id.ClauseId.TheVariants as ids
 use Rattle.sat_trail.specs.Trail.{Assignment}
 
--- the clause that a literal was put for: one of the book that was unit there, or a unit clause under its id in the proof
+-- a literal's reason: a clause of the book that was unit there, or a unit clause under its id in the proof
 abbrev pub IsReason : List (List ℤ) → List ℤ → ℤ → Option ClauseId → Type 0
 IsReason clauses before l None = Unit {0}
 IsReason clauses before l (Some (ids.Book place)) = (clause : List ℤ) × (slice_get clauses place ≡ Some clause) × IsUnitIn before clause l
@@ -33,7 +33,7 @@ pub record Follows (live : List (ℕ × List ℤ)) (assumed hints : List ℤ) : 
   pub ends : Ends live assumed hints
   pub live_hints : AllByRecursion (IsLiveHint live) hints
 
--- the clauses of the book live under these ids, one for each place, and a literal that was put for a unit clause is its one literal
+-- the clauses of the book live under these ids, one for each index, and a unit clause that is a reason has its literal alone
 pub record HaveIds (live : List (ℕ × List ℤ)) (clauses : List (List ℤ)) (proof_ids : List ℕ) (assignments : List Assignment) : Type 0 where
   pub book : (place : ℕ) (clause : List ℤ) → slice_get clauses place ≡ Some clause → HasId live (slice_index proof_ids place) clause
   pub units : (p : Assignment) (id : ℕ) → Contains assignments p → p.reason ≡ Some (ids.Unit id) → HasId live id (p.lit ∷ [])

@@ -39,7 +39,6 @@ Resolves clauses proof_ids assignments old_marks old_hints marks hints = (live :
 -- a trail whose literals have reasons among the clauses, which have small ids
 pub record IsExplained (clauses : List (List ℤ)) (proof_ids : List ℕ) (t : TrailState) : Type 0 where
   pub trail : IsTrail t
-  pub few : length t.assignments ≤ t.vars
   pub reasons : AreReasons clauses [] t.assignments
   pub one_each : length proof_ids ≡ length clauses
   pub small : All (λ name. name < 2 ^ 62) proof_ids
@@ -50,7 +49,7 @@ pub record IsForcedAt (assignments : List Assignment) (place : ℕ) : Type 0 whe
   pub stands : StandsAt assignments place assignment
   pub forced : IsSome assignment.reason
 
--- the clause that a literal was put for, by its literals, which are false before it, and its hint
+-- the clause that is a literal's reason, by its literals, which are false before it, and its hint
 pub record IsAntecedent (clauses : List (List ℤ)) (proof_ids : List ℕ) (assignments : List Assignment) (place : ℕ) (p : Assignment) (antecedent : List ℤ) (hint : ℤ) : Type 0 where
   pub false_before : (m : ℤ) → IsTrue (has antecedent m) → m ≢ p.lit → IsTrue (has (lits (take place assignments)) (neg_ℤ m))
   pub has_id : (live : List (ℕ × List ℤ)) → HaveIds live clauses proof_ids assignments

@@ -65,3 +65,23 @@ pub record IsTaken (old new : List Bool) (kept : List ℤ) (first : ℤ) (taken 
   pub distinct : IsDistinct nat_eq (map nat_abs taken)
   pub unmarked : (v : ℕ) → slice_index_or new v false ≡ (if list_any (nat_eq v) (map nat_abs taken) then false else slice_index_or old v false)
   pub covers : (l : ℤ) → IsTrue (has kept l) → IsTrue (is_marked old l) → IsTrue (list_any (nat_eq (nat_abs l)) (map nat_abs taken))
+
+-- one literal of the present level is marked, at this place, and beside it those that are kept, each variable once
+pub record IsResolved (t : TrailState) (marks : List Bool) (kept : List ℤ) (place : ℕ) (first : ℤ) : Type 0 where
+  pub room : length marks ≡ t.vars + 1
+  pub above : 0 < t.level
+  pub assignment : Assignment
+  pub stands : StandsAt t.assignments place assignment
+  pub at_level : assignment.level ≡ t.level
+  pub negated : first ≡ neg_ℤ assignment.lit
+  pub marked : (v : ℕ) → IsTrue (slice_index_or marks v false) → (nat_abs assignment.lit ≡ v) ⊎ IsTrue (list_any (nat_eq v) (map nat_abs kept))
+  pub kept_false : (l : ℤ) → IsTrue (has kept l) → (level : ℕ) × IsFalseAt t.assignments l level × (0 < level) × (level < t.level)
+  pub distinct : IsDistinct nat_eq (map nat_abs kept)
+
+-- these are the literal at a place, negated, and then those that are marked beside it; they aren't marked any more
+pub record IsDrawn (t : TrailState) (old new : List Bool) (place : ℕ) (ls : List ℤ) : Type 0 where
+  pub first : ℤ
+  pub others : List ℤ
+  pub form : ls ≡ first ∷ others
+  pub resolved : IsResolved t old others place first
+  pub unmarked : (v : ℕ) → slice_index_or new v false ≡ (if list_any (nat_eq v) (map nat_abs (first ∷ others)) then false else slice_index_or old v false)

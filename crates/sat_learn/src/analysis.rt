@@ -55,7 +55,6 @@ fn note(
     lit: CnfLit,
 ) -> Result<(), OutOfMemory>
     requires trail { IsTrail trail.now }
-    requires few { length trail.now.assignments ≤ trail.now.vars }
     requires tracked { IsTracked trail.now marks.old analysis.old.kept.items analysis.old.rooted analysis.old.open_count }
     requires in_range { nat_abs lit < length marks.old }
     requires false_now { IsTrue (is_marked marks.old lit) ⊎ IsTrue (has (lits trail.now.assignments) (neg_ℤ lit)) }
@@ -65,12 +64,12 @@ fn note(
     ensures count { analysis.old.open_count ≤ analysis.new.open_count }
     ensures stays { IsEarlier trail.now marks.old lit → analysis.new.open_count ≡ analysis.old.open_count }
 {
-    let place = lit.var() as usize;
-    if marks[place] {
+    let index = lit.var() as usize;
+    if marks[index] {
         return Ok(());
     }
     let level = level_of_false(trail, lit);
-    marks[place] = true;
+    marks[index] = true;
     if level == 0 {
         analysis.rooted = true;
     } else if level < trail.level() {
@@ -89,7 +88,6 @@ pub fn note_all(
     clause: &[CnfLit],
 ) -> Result<(), OutOfMemory>
     requires trail { IsTrail trail.now }
-    requires few { length trail.now.assignments ≤ trail.now.vars }
     requires tracked { IsTracked trail.now marks.old analysis.old.kept.items analysis.old.rooted analysis.old.open_count }
     requires false_now { (l : ℤ) → IsTrue (has clause.now l) → IsTrue (is_marked marks.old l) ⊎ IsTrue (has (lits trail.now.assignments) (neg_ℤ l)) }
     ensures tracked { OnOk result (IsTracked trail.now marks.new analysis.new.kept.items analysis.new.rooted analysis.new.open_count) }

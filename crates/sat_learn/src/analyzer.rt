@@ -3,19 +3,18 @@
 ghost use Rattle.std.specs.Prelude.{◌≡◌, [], ◌<◌, ◌≤◌, ◌-◌, ◌^◌, ℕ, ℤ, List, length, map, neg_ℤ, All, IfOk, IfSome};
 ghost use Rattle.cnf_base.specs.Status.{IsFalsifiedIn};
 ghost use Rattle.sat_trail.specs.Trail.{lits, upto};
-ghost use Rattle.sat_learn.specs.Explaining.{IsExplanation};
-ghost use Rattle.sat_learn.specs.Reasons.{AreReasons, HasId, HaveIds, Follows};
+ghost use Rattle.sat_learn.specs.Premises.{AreLive, IsExplanationIn};
+ghost use Rattle.sat_learn.specs.Reasons.{AreReasons, HasId, Follows};
 ghost use Rattle.sat_learn.specs.Learned.{IsLearned};
 
 use crate::explanation::explain_marked;
 use crate::learned_clause::LearnedClause;
 use crate::minimize::Visit;
+use crate::premises::Premises;
 use crate::resolution::{refute_marked, resolve_conflict};
-use cnf_base::Clause;
+use cnf_base::CnfLit;
 use ketch_base::OutOfMemory;
 use lrat_text::Hints;
-use sat_trail::Trail;
-use sat_watch::ClauseBook;
 use std::alloc::Global;
 use std::marker::Model;
 
@@ -29,14 +28,15 @@ pub struct Analyzer {
 }
 
 impl Model for Analyzer {
-    ghost use Rattle.std.specs.Prelude.{◌≡◌, ℕ, ◌+◌, false, replicate, length, ◌≤◌};
+    ghost use Rattle.std.specs.Prelude.{◌≡◌, ℕ, ◌+◌, false, replicate, ◌≤◌};
+    ghost use Rattle.sat_learn.specs.declared.minimize.Visit.TheVariants.{Unknown};
 
     ghost Value = { ℕ };
 
     ghost view = { λ l. l.vars };
 
     ghost invariant = { λ l. (l.vars ≤ 4000000) × (l.marks.items ≡ replicate (l.vars + 1) false)
-        × (length l.visits.items ≡ l.vars + 1) };
+        × (l.visits.items ≡ replicate (l.vars + 1) Unknown) };
 }
 
 impl Analyzer {
@@ -58,35 +58,30 @@ impl Analyzer {
     /// it false. `id` is its id in the proof, and `proof_ids` has the ids of the book's clauses.
     pub fn analyze(
         &mut self,
-        trail: &Trail,
-        book: &ClauseBook,
-        proof_ids: &[u64],
-        conflict: &Clause,
+        premises: &Premises,
+        conflict: &[CnfLit],
         id: u64,
     ) -> Result<LearnedClause, OutOfMemory>
-        requires vars { trail.now.vars ≡ self.old }
-        requires above { 0 < trail.now.level }
-        requires reasons { AreReasons book.now.clauses [] trail.now.assignments }
-        requires proof_ids { length proof_ids.now ≡ length book.now.clauses }
-        requires small_ids { All (λ name. name < 2 ^ 62) proof_ids.now }
+        requires vars { premises.now.trail.vars ≡ self.old }
+        requires above { 0 < premises.now.trail.level }
+        requires reasons { AreReasons premises.now.book.clauses [] premises.now.trail.assignments }
+        requires proof_ids { length premises.now.proof_ids.items ≡ length premises.now.book.clauses }
+        requires small_ids { All (λ name. name < 2 ^ 62) premises.now.proof_ids.items }
         requires small { id < 2 ^ 62 }
-        requires false_now { IsFalsifiedIn (lits trail.now.assignments) conflict.now }
-        requires not_before { ¬ IsFalsifiedIn (lits (upto (trail.now.level - 1) trail.now.assignments)) conflict.now }
+        requires false_now { IsFalsifiedIn (lits premises.now.trail.assignments) conflict.now }
+        requires not_before { ¬ IsFalsifiedIn (lits (upto (premises.now.trail.level - 1) premises.now.trail.assignments)) conflict.now }
         ensures vars { self.new ≡ self.old }
-        ensures learned { IfOk result (IsLearned trail.now) }
-        ensures follows { IfOk result (λ learned. (live : List (ℕ × List ℤ)) → HaveIds live book.now.clauses proof_ids.now trail.now.assignments
+        ensures learned { IfOk result (IsLearned premises.now.trail) }
+        ensures follows { IfOk result (λ learned. (live : List (ℕ × List ℤ)) → AreLive live premises.now
             → HasId live id conflict.now → Follows live (map neg_ℤ learned.lits) learned.hints) }
     {
-        // for what it says of the trail
-        let _ = trail.len();
+        premises.trail.is_well_formed();
         match resolve_conflict(
             self.alloc,
-            trail,
-            book,
-            proof_ids,
+            premises,
             &mut self.marks,
             &mut self.visits,
-            conflict.as_slice(),
+            conflict,
             id as i64,
         ) {
             Ok(learned) => Ok(learned),
@@ -101,34 +96,23 @@ impl Analyzer {
     /// The hints by which the empty clause follows from one that is false at level 0.
     pub fn refute(
         &mut self,
-        trail: &Trail,
-        book: &ClauseBook,
-        proof_ids: &[u64],
-        conflict: &Clause,
+        premises: &Premises,
+        conflict: &[CnfLit],
         id: u64,
     ) -> Result<Hints, OutOfMemory>
-        requires vars { trail.now.vars ≡ self.old }
-        requires at_root { trail.now.level ≡ 0 }
-        requires reasons { AreReasons book.now.clauses [] trail.now.assignments }
-        requires proof_ids { length proof_ids.now ≡ length book.now.clauses }
-        requires small_ids { All (λ name. name < 2 ^ 62) proof_ids.now }
+        requires vars { premises.now.trail.vars ≡ self.old }
+        requires at_root { premises.now.trail.level ≡ 0 }
+        requires reasons { AreReasons premises.now.book.clauses [] premises.now.trail.assignments }
+        requires proof_ids { length premises.now.proof_ids.items ≡ length premises.now.book.clauses }
+        requires small_ids { All (λ name. name < 2 ^ 62) premises.now.proof_ids.items }
         requires small { id < 2 ^ 62 }
-        requires false_now { IsFalsifiedIn (lits trail.now.assignments) conflict.now }
+        requires false_now { IsFalsifiedIn (lits premises.now.trail.assignments) conflict.now }
         ensures vars { self.new ≡ self.old }
-        ensures follows { IfOk result (λ hints. (live : List (ℕ × List ℤ)) → HaveIds live book.now.clauses proof_ids.now trail.now.assignments
+        ensures follows { IfOk result (λ hints. (live : List (ℕ × List ℤ)) → AreLive live premises.now
             → HasId live id conflict.now → Follows live [] hints) }
     {
-        // for what it says of the trail
-        let _ = trail.len();
-        match refute_marked(
-            self.alloc,
-            trail,
-            book,
-            proof_ids,
-            &mut self.marks,
-            conflict.as_slice(),
-            id as i64,
-        ) {
+        premises.trail.is_well_formed();
+        match refute_marked(self.alloc, premises, &mut self.marks, conflict, id as i64) {
             Ok(hints) => Ok(hints),
             Err(OutOfMemory) => {
                 self.marks.fill(false);
@@ -139,24 +123,17 @@ impl Analyzer {
 
     /// The hints for the unit clause of the literal at this place of the trail, which is of level 0. None where the clauses
     /// that imply it go more than 500 deep.
-    pub fn explain(
-        &mut self,
-        trail: &Trail,
-        book: &ClauseBook,
-        proof_ids: &[u64],
-        place: u32,
-    ) -> Result<Option<Hints>, OutOfMemory>
-        requires vars { trail.now.vars ≡ self.old }
-        requires reasons { AreReasons book.now.clauses [] trail.now.assignments }
-        requires proof_ids { length proof_ids.now ≡ length book.now.clauses }
-        requires small_ids { All (λ name. name < 2 ^ 62) proof_ids.now }
-        requires at_root { place < length (upto 0 trail.now.assignments) }
+    pub fn explain(&mut self, premises: &Premises, place: u32) -> Result<Option<Hints>, OutOfMemory>
+        requires vars { premises.now.trail.vars ≡ self.old }
+        requires reasons { AreReasons premises.now.book.clauses [] premises.now.trail.assignments }
+        requires proof_ids { length premises.now.proof_ids.items ≡ length premises.now.book.clauses }
+        requires small_ids { All (λ name. name < 2 ^ 62) premises.now.proof_ids.items }
+        requires at_root { place < length (upto 0 premises.now.trail.assignments) }
         ensures vars { self.new ≡ self.old }
-        ensures follows { IfOk result (λ found. IfSome found (IsExplanation book.now.clauses proof_ids.now trail.now.assignments place)) }
+        ensures follows { IfOk result (λ found. IfSome found (IsExplanationIn premises.now place)) }
     {
-        // for what it says of the trail
-        let _ = trail.len();
-        match explain_marked(self.alloc, trail, book, proof_ids, &mut self.marks, place) {
+        premises.trail.is_well_formed();
+        match explain_marked(self.alloc, premises, &mut self.marks, place) {
             Ok(found) => Ok(found),
             Err(OutOfMemory) => {
                 self.marks.fill(false);

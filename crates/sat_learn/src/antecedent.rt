@@ -1,12 +1,13 @@
-//! The clause that a literal was put for.
+//! The clause that is a literal's reason.
 
 ghost use Rattle.std.specs.Prelude.{◌≡◌, ℕ, ◌<◌, ◌≤◌, nat_abs, None, MatchOption, length};
 ghost use Rattle.sat_trail.specs.Trail.{Assignment};
-ghost use Rattle.sat_learn.specs.Resolving.{StandsAt, IsExplained, IsForcedAt, IsAntecedent};
+ghost use Rattle.sat_learn.specs.Premises.{AreExplained, IsAntecedentIn};
+ghost use Rattle.sat_learn.specs.Resolving.{StandsAt, IsForcedAt};
 
+use crate::premises::Premises;
 use cnf_base::CnfLit;
-use sat_trail::{ClauseId, Trail};
-use sat_watch::ClauseBook;
+use sat_trail::ClauseId;
 
 /// How deep a walk down the reasons goes, so that it needs little stack.
 pub const DEPTH: u32 = 500;
@@ -19,23 +20,18 @@ pub struct Antecedent<'a> {
 }
 
 /// A decision has none, and neither has a variable that is unassigned.
-pub fn find_antecedent<'a>(
-    trail: &Trail,
-    book: &'a ClauseBook,
-    proof_ids: &[u64],
-    var: u32,
-) -> Option<Antecedent<'a>>
-    requires explained { IsExplained book.now.clauses proof_ids.now trail.now }
+pub fn find_antecedent<'a>(premises: &'a Premises, var: u32) -> Option<Antecedent<'a>>
+    requires explained { AreExplained premises.now }
     requires not_zero { 0 < var }
-    requires in_range { var ≤ trail.now.vars }
-    ensures { (place : ℕ) (p : Assignment) → StandsAt trail.now.assignments place p → nat_abs p.lit ≡ var
+    requires in_range { var ≤ premises.now.trail.vars }
+    ensures { (place : ℕ) (p : Assignment) → StandsAt premises.now.trail.assignments place p → nat_abs p.lit ≡ var
         → MatchOption result (p.reason ≡ None)
-        (λ found. IsAntecedent book.now.clauses proof_ids.now trail.now.assignments place p found.lits.now found.hint) }
+        (λ found. IsAntecedentIn premises.now place p found.lits.now found.hint) }
 {
-    match trail.reason_of(var) {
+    match premises.trail.reason_of(var) {
         Some(ClauseId::Book(at)) => Some(Antecedent {
-            lits: book.clause(ClauseId::Book(at)).as_slice(),
-            hint: proof_ids[at as usize] as i64,
+            lits: premises.book.clause(ClauseId::Book(at)),
+            hint: premises.proof_ids[at as usize] as i64,
         }),
         Some(ClauseId::Unit(id)) => Some(Antecedent {
             lits: &[],
@@ -46,18 +42,13 @@ pub fn find_antecedent<'a>(
 }
 
 /// That of a literal that isn't a decision.
-pub fn antecedent_of<'a>(
-    trail: &Trail,
-    book: &'a ClauseBook,
-    proof_ids: &[u64],
-    place: u32,
-) -> Antecedent<'a>
-    requires explained { IsExplained book.now.clauses proof_ids.now trail.now }
-    requires forced { IsForcedAt trail.now.assignments place }
-    ensures { (p : Assignment) → StandsAt trail.now.assignments place p
-        → IsAntecedent book.now.clauses proof_ids.now trail.now.assignments place p result.lits.now result.hint }
+pub fn antecedent_of<'a>(premises: &'a Premises, place: u32) -> Antecedent<'a>
+    requires explained { AreExplained premises.now }
+    requires forced { IsForcedAt premises.now.trail.assignments place }
+    ensures { (p : Assignment) → StandsAt premises.now.trail.assignments place p
+        → IsAntecedentIn premises.now place p result.lits.now result.hint }
 {
-    match find_antecedent(trail, book, proof_ids, trail.at(place).var()) {
+    match find_antecedent(premises, premises.trail.at(place).var()) {
         Some(found) => found,
         None => unreachable!(),
     }

@@ -6,7 +6,7 @@ ghost use Rattle.sat_trail.specs.Trail.{lits, IsTrail};
 ghost use Rattle.sat_learn.specs.Learned.{AreAtRoot, IsLearned};
 ghost use Rattle.sat_learn.specs.Reasons.{Follows};
 ghost use Rattle.sat_learn.specs.Resolving.{Refutes};
-ghost use Rattle.sat_learn.specs.Tracking.{IsGreatestLevel, IsMinimized, IsTaken};
+ghost use Rattle.sat_learn.specs.Tracking.{IsGreatestLevel, IsMinimized, IsTaken, IsDrawn};
 
 use crate::analysis::{Analysis, level_of_false};
 use crate::learned_clause::{LearnedClause, new_learned};
@@ -40,7 +40,8 @@ fn level_or_zero(trail: &Trail, lit: CnfLit) -> u32 {
     }
 }
 
-/// Puts literals of lower levels first: a search that takes variables in this order finds more of its conflicts early.
+/// Sorts literals by their levels, the lowest first: a search that takes variables in this order finds more of its conflicts
+/// early.
 fn sort_by_level(trail: &Trail, kept: &mut [CnfLit])
     ensures { IsPermutation kept.old kept.new }
 {
@@ -62,13 +63,30 @@ fn take_marked(
     taken.push(first)?;
     marks[first.var() as usize] = false;
     for lit in kept {
-        let place = lit.var() as usize;
-        if marks[place] {
-            marks[place] = false;
+        let index = lit.var() as usize;
+        if marks[index] {
+            marks[index] = false;
             taken.push(*lit)?;
         }
     }
     Ok(taken)
+}
+
+/// The negation of the literal at this place, and the kept ones that are marked. Unmarks all.
+fn draw(
+    alloc: Global,
+    trail: &Trail,
+    marks: &mut [bool],
+    kept: &[CnfLit],
+    place: u32,
+) -> Result<Vec<CnfLit>, OutOfMemory>
+    requires trail { IsTrail trail.now }
+    requires minimized { IsMinimized trail.now marks.old kept.now place }
+    ensures { IfOk result (λ drawn. IsDrawn trail.now marks.old marks.new place drawn.items) }
+{
+    let first = trail.at(place).negation();
+    let drawn = take_marked(alloc, marks, kept, first)?;
+    Ok(drawn)
 }
 
 /// The learned clause where the literal at this place and some of the kept ones are marked. Unmarks all.
@@ -95,8 +113,7 @@ pub fn conclude(
         open_count: _,
     } = analysis;
     sort_by_level(trail, &mut kept);
-    let first = trail.at(place).negation();
-    let taken = take_marked(alloc, marks, &kept, first)?;
-    let backjump_level = greatest_level(trail, &taken[1..]);
-    Ok(new_learned(taken, backjump_level, hints, roots))
+    let drawn = draw(alloc, trail, marks, &kept, place)?;
+    let backjump_level = greatest_level(trail, &drawn[1..]);
+    Ok(new_learned(drawn, backjump_level, hints, roots))
 }

@@ -10,8 +10,10 @@ mod first_uip;
 mod learned_clause;
 mod marks;
 mod minimize;
+mod premises;
 mod resolution;
 mod roots;
 
 pub use analyzer::Analyzer;
 pub use learned_clause::LearnedClause;
+pub use premises::Premises;

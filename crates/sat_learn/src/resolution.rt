@@ -3,10 +3,12 @@
 ghost use Rattle.std.specs.Prelude.{◌≡◌, ℕ, ℤ, List, ◌+◌, ◌-◌, ◌<◌, false, neg_ℤ, map, length, pos, [], slice_index_or, IfOk, OnOk};
 ghost use Rattle.cnf_base.specs.Status.{IsFalsifiedIn};
 ghost use Rattle.sat_trail.specs.Trail.{lits, upto};
-ghost use Rattle.sat_learn.specs.Reasons.{HasId, HaveIds, Follows};
+ghost use Rattle.sat_learn.specs.Premises.{AreExplained, AreLive, ResolvesIn};
+ghost use Rattle.sat_learn.specs.Reasons.{HasId, Follows};
 ghost use Rattle.sat_learn.specs.Learned.{AreAtRoot, IsLearned};
-ghost use Rattle.sat_learn.specs.Resolving.{Resolves, IsExplained, AreRootsClear, DifferAtRoots};
+ghost use Rattle.sat_learn.specs.Resolving.{AreRootsClear, DifferAtRoots};
 ghost use Rattle.sat_learn.specs.Tracking.{IsTracked};
+ghost use Rattle.sat_learn.specs.Visiting.{NoneVisited};
 
 use crate::analysis::{Analysis, new_analysis, note_all};
 use crate::conclusion::conclude;
@@ -14,94 +16,89 @@ use crate::first_uip::resolve;
 use crate::learned_clause::{LearnedClause, in_order};
 use crate::marks::mark_all;
 use crate::minimize::{Visit, minimize_clause};
+use crate::premises::Premises;
 use crate::roots::resolve_roots;
 use cnf_base::CnfLit;
 use ketch_base::OutOfMemory;
 use lrat_text::Hints;
-use sat_trail::Trail;
-use sat_watch::ClauseBook;
 use std::alloc::Global;
 
 /// Resolves the literals of level 0, if one is marked: their places, from the last to the first.
 fn resolve_any_roots(
     alloc: Global,
-    trail: &Trail,
-    book: &ClauseBook,
-    proof_ids: &[u64],
+    premises: &Premises,
     marks: &mut [bool],
     analysis: &mut Analysis,
 ) -> Result<Vec<u32>, OutOfMemory>
-    requires explained { IsExplained book.now.clauses proof_ids.now trail.now }
-    requires above { 0 < trail.now.level }
-    requires tracked { IsTracked trail.now marks.old analysis.old.kept.items analysis.old.rooted analysis.old.open_count }
-    ensures clear { OnOk result (AreRootsClear trail.now.assignments marks.new 0) }
-    ensures others { OnOk result (DifferAtRoots trail.now.assignments marks.old marks.new) }
+    requires explained { AreExplained premises.now }
+    requires above { 0 < premises.now.trail.level }
+    requires tracked { IsTracked premises.now.trail marks.old analysis.old.kept.items analysis.old.rooted analysis.old.open_count }
+    ensures clear { OnOk result (AreRootsClear premises.now.trail.assignments marks.new 0) }
+    ensures others { OnOk result (DifferAtRoots premises.now.trail.assignments marks.old marks.new) }
     ensures kept { analysis.new.kept ≡ analysis.old.kept }
-    ensures resolves { OnOk result (Resolves book.now.clauses proof_ids.now trail.now.assignments marks.old analysis.old.hints.items marks.new analysis.new.hints.items) }
-    ensures roots { IfOk result (λ roots. AreAtRoot trail.now.assignments roots.items) }
+    ensures resolves { OnOk result (ResolvesIn premises.now marks.old analysis.old.hints.items marks.new analysis.new.hints.items) }
+    ensures roots { IfOk result (λ roots. AreAtRoot premises.now.trail.assignments roots.items) }
 {
     if !analysis.rooted {
         return Ok(Vec::new(alloc));
     }
-    let roots = resolve_roots(alloc, trail, book, proof_ids, marks, &mut analysis.hints)?;
+    let roots = resolve_roots(alloc, premises, marks, &mut analysis.hints)?;
     Ok(roots)
 }
 
-/// The learned clause of a conflict above level 0, where no variable is marked before or after.
+/// The learned clause of a conflict above level 0, where no variable is marked or visited before or after.
 pub fn resolve_conflict(
     alloc: Global,
-    trail: &Trail,
-    book: &ClauseBook,
-    proof_ids: &[u64],
+    premises: &Premises,
     marks: &mut [bool],
     visits: &mut [Visit],
     conflict: &[CnfLit],
     hint: i64,
 ) -> Result<LearnedClause, OutOfMemory>
-    requires explained { IsExplained book.now.clauses proof_ids.now trail.now }
-    requires above { 0 < trail.now.level }
-    requires room { length marks.old ≡ trail.now.vars + 1 }
-    requires room_too { length visits.old ≡ trail.now.vars + 1 }
+    requires explained { AreExplained premises.now }
+    requires above { 0 < premises.now.trail.level }
+    requires room { length marks.old ≡ premises.now.trail.vars + 1 }
+    requires room_too { length visits.old ≡ premises.now.trail.vars + 1 }
     requires unmarked { (v : ℕ) → slice_index_or marks.old v false ≡ false }
-    requires false_now { IsFalsifiedIn (lits trail.now.assignments) conflict.now }
-    requires not_before { ¬ IsFalsifiedIn (lits (upto (trail.now.level - 1) trail.now.assignments)) conflict.now }
+    requires unvisited { NoneVisited visits.old }
+    requires false_now { IsFalsifiedIn (lits premises.now.trail.assignments) conflict.now }
+    requires not_before { ¬ IsFalsifiedIn (lits (upto (premises.now.trail.level - 1) premises.now.trail.assignments)) conflict.now }
     ensures unmarked { OnOk result ((v : ℕ) → slice_index_or marks.new v false ≡ false) }
-    ensures learned { IfOk result (IsLearned trail.now) }
-    ensures follows { IfOk result (λ learned. (live : List (ℕ × List ℤ)) (id : ℕ) → hint ≡ pos id → HaveIds live book.now.clauses proof_ids.now trail.now.assignments
+    ensures unvisited { OnOk result (NoneVisited visits.new) }
+    ensures learned { IfOk result (IsLearned premises.now.trail) }
+    ensures follows { IfOk result (λ learned. (live : List (ℕ × List ℤ)) (id : ℕ) → hint ≡ pos id → AreLive live premises.now
         → HasId live id conflict.now → Follows live (map neg_ℤ learned.lits) learned.hints) }
 {
     let mut analysis = new_analysis(alloc);
     analysis.hints.push(hint)?;
-    note_all(trail, marks, &mut analysis, conflict)?;
-    let place = resolve(trail, book, proof_ids, marks, &mut analysis)?;
-    minimize_clause(alloc, trail, book, proof_ids, marks, visits, &mut analysis)?;
-    let roots = resolve_any_roots(alloc, trail, book, proof_ids, marks, &mut analysis)?;
-    let learned = conclude(alloc, trail, marks, analysis, roots, place)?;
+    note_all(&premises.trail, marks, &mut analysis, conflict)?;
+    let place = resolve(premises, marks, &mut analysis)?;
+    minimize_clause(alloc, premises, marks, visits, &mut analysis)?;
+    let roots = resolve_any_roots(alloc, premises, marks, &mut analysis)?;
+    let learned = conclude(alloc, &premises.trail, marks, analysis, roots, place)?;
     Ok(learned)
 }
 
 /// The hints by which the empty clause follows at level 0, where no variable is marked before or after.
 pub fn refute_marked(
     alloc: Global,
-    trail: &Trail,
-    book: &ClauseBook,
-    proof_ids: &[u64],
+    premises: &Premises,
     marks: &mut [bool],
     conflict: &[CnfLit],
     hint: i64,
 ) -> Result<Hints, OutOfMemory>
-    requires explained { IsExplained book.now.clauses proof_ids.now trail.now }
-    requires at_root { trail.now.level ≡ 0 }
-    requires room { length marks.old ≡ trail.now.vars + 1 }
+    requires explained { AreExplained premises.now }
+    requires at_root { premises.now.trail.level ≡ 0 }
+    requires room { length marks.old ≡ premises.now.trail.vars + 1 }
     requires unmarked { (v : ℕ) → slice_index_or marks.old v false ≡ false }
-    requires false_now { IsFalsifiedIn (lits trail.now.assignments) conflict.now }
+    requires false_now { IsFalsifiedIn (lits premises.now.trail.assignments) conflict.now }
     ensures unmarked { OnOk result ((v : ℕ) → slice_index_or marks.new v false ≡ false) }
-    ensures follows { IfOk result (λ hints. (live : List (ℕ × List ℤ)) (id : ℕ) → hint ≡ pos id → HaveIds live book.now.clauses proof_ids.now trail.now.assignments
+    ensures follows { IfOk result (λ hints. (live : List (ℕ × List ℤ)) (id : ℕ) → hint ≡ pos id → AreLive live premises.now
         → HasId live id conflict.now → Follows live [] hints) }
 {
     let mut hints = Vec::new(alloc);
     hints.push(hint)?;
     mark_all(marks, conflict);
-    resolve_roots(alloc, trail, book, proof_ids, marks, &mut hints)?;
+    resolve_roots(alloc, premises, marks, &mut hints)?;
     Ok(in_order(hints))
 }

@@ -1,4 +1,4 @@
--- A variable that nothing assignments on a trail.
+-- A variable that a trail doesn't assign.
 use Rattle.std.proofs.Common.{◌≡◌, ℕ, true, false, eqb, ℤ, nat_abs, List, [], ◌∷◌, map, refl, sym, subst, inl, inr}
 use Rattle.std.specs.List.{list_any}
 use Rattle.std.proofs.lemmas.Bool.{cases_eq, or_from, eq-eqb, ne_eqb}

@@ -9,14 +9,14 @@ use Rattle.sat_watch.specs.Book.{BookState}
 use Rattle.sat_watch.specs.Ready.{IsReady}
 use Rattle.sat_watch.proofs.Readiness.{followed_more}
 use Rattle.sat_learn.specs.Reasons.{HasId}
-use Rattle.sat_solver.specs.Attaching.{Attaches}
+use Rattle.sat_solver.specs.Attachment.{Attaches}
 use Rattle.sat_solver.specs.Sound.{IsSound}
 use Rattle.sat_solver.proofs.Roots.{unit_pushed}
 use Rattle.sat_solver.proofs.Soundness.{sound_with_done, sound_with_clause, sound_with_unit}
 
 -- ---- what stands
 
--- a unit clause, put at level 0
+-- a unit clause, assigned at level 0
 sound_unit : (vars : ℕ) (live : List (ℕ × List ℤ)) (done : List (List ℤ)) (proof_ids : List ℕ) (b : BookState) (t : TrailState) (id : ℕ) (l : ℤ) → IsSound vars live done proof_ids b t → t.level ≡ 0 → id < 2 ^ 62 → HasId live id (l ∷ []) → IsSound vars live (done ++ (l ∷ []) ∷ []) proof_ids b (record { vars = t.vars; assignments = t.assignments ++ record { lit = l; level = t.level; reason = Some (ids.Unit id) } ∷ []; level = t.level; low = t.low })
 sound_unit vars live done proof_ids b t id l s root small has_id =
     let p : Assignment = record { lit = l; level = t.level; reason = Some (ids.Unit id) } in

@@ -14,10 +14,10 @@ use Rattle.sat_trail.proofs.Levels.{upto-upto}
 use Rattle.sat_watch.specs.Book.{BookState}
 use Rattle.sat_learn.specs.Learned.{LearnedState, IsLearned}
 use Rattle.sat_learn.specs.Reasons.{HasId}
-use Rattle.sat_solver.specs.Attaching.{Attaches}
+use Rattle.sat_solver.specs.Attachment.{Attaches}
 use Rattle.sat_solver.specs.Ledger.{earlier, live, IsLedger}
 use Rattle.sat_solver.specs.Sound.{IsSound}
-use Rattle.sat_solver.specs.Learning.{IsLearnedFrom}
+use Rattle.sat_solver.specs.LearnedLemma.{IsLearnedFrom}
 use Rattle.sat_solver.proofs.Growth.{slice_get-push, clause_at-enumerate}
 use Rattle.sat_solver.proofs.Attachment.{sound_held}
 use Rattle.sat_solver.proofs.LearnedClauses.{back_at, learned_root}

@@ -72,7 +72,7 @@ AreReasons-rest cs before (p ∷ ps) qs h =
     let P : List ℤ → Type 0 = λ ls. AreReasons cs ls qs in
     subst P (append_assoc before (p.lit ∷ []) (lits ps)) (AreReasons-rest cs (before ++ p.lit ∷ []) ps qs h.1)
 
--- one more put at the end
+-- one more at the end
 pub AreReasons-push : (cs : List (List ℤ)) (ps : List Assignment) (p : Assignment) → AreReasons cs [] ps → IsReason cs (lits ps) p.lit p.reason → AreReasons cs [] (ps ++ p ∷ [])
 AreReasons-push cs ps p h k = AreReasons-append cs [] ps (p ∷ []) h (k, tt)
 

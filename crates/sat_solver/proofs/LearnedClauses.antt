@@ -16,7 +16,7 @@ use Rattle.sat_watch.specs.Book.{BookState, IsBookClause}
 use Rattle.sat_watch.specs.Ready.{IsReady}
 use Rattle.sat_watch.proofs.Readiness.{settled_back}
 use Rattle.sat_learn.specs.Learned.{LearnedState, IsLearned}
-use Rattle.sat_solver.specs.Attaching.{CanAttach}
+use Rattle.sat_solver.specs.Attachment.{CanAttach}
 use Rattle.sat_solver.proofs.Attachment.{HasTwoOpen}
 
 -- where the trail is after going back

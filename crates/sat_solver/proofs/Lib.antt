@@ -2,7 +2,7 @@ pub mod Assignments
 pub mod Start
 pub mod FreshLemmas
 pub mod QueueFront
-pub mod PlainClauses
+pub mod GatheredLiterals
 pub mod Growth
 pub mod Attachment
 pub mod Backjumps
@@ -17,3 +17,4 @@ pub mod LoadedClauses
 pub mod Undecided
 pub mod Soundness
 pub mod States
+pub mod ProofIds

@@ -17,7 +17,7 @@ use Rattle.sat_trail.specs.Trail.{Assignment, TrailState, lits, upto}
 use Rattle.sat_watch.specs.Book.{BookState}
 use Rattle.sat_learn.specs.Reasons.{HasId}
 use Rattle.sat_solver.specs.Sound.{IsCovered, IsSound}
-use Rattle.sat_solver.specs.Loading.{RestsOnUnit, IsLoaded, IsFalsifiedAt, Store, with_unit, IsTaken}
+use Rattle.sat_solver.specs.InputClauses.{RestsOnUnit, IsLoaded, IsLoadedIn, IsFalsifiedAt, Store, with_unit, IsTaken}
 use Rattle.sat_solver.proofs.Growth.{clause_at-enumerate}
 use Rattle.sat_solver.proofs.Roots.{unit_there, unit_pushed}
 use Rattle.sat_solver.proofs.Soundness.{sound_with_done, sound_with_clause, sound_with_unit}
@@ -94,10 +94,6 @@ loaded_clause formula place proof_ids b t clause ls h at same small =
       low = h.low;
     } in
     loaded_more formula place (proof_ids ++ (place + 1) ∷ []) (record b { clauses = b.clauses ++ ls ∷ [] }) t clause grown at (inr (inr (ls, Contains-push b.clauses ls, same)))
-
--- what a store has is loaded
-abbrev pub IsLoadedIn : CnfFormula → ℕ → Store → Type 0
-IsLoadedIn formula count s = IsLoaded formula count s.proof_ids s.book s.trail
 
 pub loaded_taken : (formula : CnfFormula) (place : ℕ) (old new : Store) (clause ls : List ℤ) → IsLoadedIn formula place old → IsAt formula place clause → SameLiterals clause ls → place + 1 < 2 ^ 62 → IsTaken (place + 1) ls old new → IsLoadedIn formula (place + 1) new
 loaded_taken formula place old new clause [] h at same small taken = absurd taken

@@ -13,7 +13,7 @@ use Rattle.sat_watch.specs.Ready.{IsReady}
 use Rattle.sat_queue.specs.Order.{is_unassigned}
 use Rattle.sat_learn.specs.Reasons.{IsReason, AreReasons, HasId, HaveIds}
 use Rattle.sat_learn.proofs.Assignments.{one_assignment}
-use Rattle.sat_solver.specs.Deciding.{before, AreAssigned, IsPassed}
+use Rattle.sat_solver.specs.Decision.{before, AreAssigned, IsPassed}
 use Rattle.sat_solver.specs.Sound.{root}
 use Rattle.sat_solver.proofs.Roots.{KeepsUnits, contains_map, from_map, place_of}
 

@@ -16,7 +16,7 @@ use Rattle.sat_learn.specs.Resolving.{StandsAt}
 use Rattle.sat_learn.proofs.Antecedents.{lit_at}
 use Rattle.sat_learn.proofs.RootLevel.{upto_at}
 use Rattle.sat_learn.proofs.Assignments.{assignment_finds, true_literal}
-use Rattle.sat_solver.specs.Loading.{RestsOnUnit}
+use Rattle.sat_solver.specs.InputClauses.{RestsOnUnit}
 use Rattle.sat_solver.specs.Sound.{root}
 
 -- ---- elements
@@ -82,7 +82,7 @@ assignment_true (q ∷ qs) p h =
       | inr later ↦ or_right (same_lit q.lit p.lit) (has (lits qs) p.lit) (assignment_true qs p later)
     ]
 
--- the put of a literal that is true
+-- the assignment of a literal that is true
 pub assignment_of_true : (ps : List Assignment) (l : ℤ) → has (lits ps) l ≡ true → (p : Assignment) × Contains ps p × (p.lit ≡ l)
 assignment_of_true [] l h = cc
 assignment_of_true (q ∷ qs) l h =

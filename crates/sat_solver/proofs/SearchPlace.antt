@@ -9,7 +9,7 @@ use Rattle.std.proofs.lemmas.Option.{same_Some}
 use Rattle.sat_trail.specs.Trail.{Assignment, assignment_of}
 use Rattle.sat_queue.specs.Order.{IsOrder, from_on, is_unassigned}
 use Rattle.sat_queue.proofs.Ring.{var_stands}
-use Rattle.sat_solver.specs.Deciding.{before, AreAssigned, IsPassed}
+use Rattle.sat_solver.specs.Decision.{before, AreAssigned, IsPassed}
 use Rattle.sat_solver.proofs.Roots.{contains_head}
 
 -- a variable that is found, and all before it are assigned

@@ -10,9 +10,9 @@ use Rattle.sat_trail.specs.Trail.{Assignment, TrailState, lits, upto, IsTrail}
 use Rattle.sat_trail.proofs.Levels.{upto-take}
 use Rattle.sat_watch.specs.Book.{BookState, IsBookClause, NoneFalse, ExtendsByUnits, marks}
 use Rattle.sat_learn.specs.Reasons.{AreReasons, HasId, HaveIds}
-use Rattle.sat_solver.specs.Deciding.{IsPassed}
+use Rattle.sat_solver.specs.Decision.{IsPassed}
 use Rattle.sat_solver.specs.Ledger.{lits_of, earlier, live}
-use Rattle.sat_solver.specs.Loading.{IsLoaded, IsFalsifiedAt}
+use Rattle.sat_solver.specs.InputClauses.{IsLoaded, IsFalsifiedAt}
 use Rattle.sat_solver.specs.Steps.{AllAssigned}
 use Rattle.sat_solver.specs.Sound.{IsSound}
 use Rattle.sat_solver.proofs.Growth.{clause_at-enumerate, AreReasons-append, AreReasons-prefix, AreReasons-push, AreReasons-follow, HaveIds-follow, HaveIds-decide, HaveIds-prefix, HaveIds-more_live, IsCovered-more_assignments}

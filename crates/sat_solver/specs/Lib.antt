@@ -1,9 +1,10 @@
 pub mod Answer
-pub mod Deciding
-pub mod Attaching
+pub mod Attachment
+pub mod Decision
+pub mod Gathered
+pub mod InputClauses
+pub mod LearnedLemma
 pub mod Ledger
-pub mod Loading
-pub mod Searching
+pub mod SearchInvariant
 pub mod Sound
-pub mod Learning
 pub mod Steps

@@ -7,8 +7,8 @@ ghost use Rattle.sat_trail.specs.Trail.{lits};
 ghost use Rattle.sat_watch.specs.Book.{IsClauseOf};
 ghost use Rattle.sat_watch.specs.Ready.{IsReady};
 ghost use Rattle.sat_solver.specs.Ledger.{earlier};
-ghost use Rattle.sat_solver.specs.Searching.{IsSearch};
-ghost use Rattle.sat_solver.specs.Learning.{HasProofId, IsProofIdOf, IsLearnedFrom};
+ghost use Rattle.sat_solver.specs.SearchInvariant.{IsSearch};
+ghost use Rattle.sat_solver.specs.LearnedLemma.{HasProofId, IsProofIdOf, IsLearnedFrom};
 
 use crate::search::Search;
 use ketch_base::OutOfMemory;
@@ -21,7 +21,7 @@ pub fn proof_id_of(proof_ids: &[u64], id: ClauseId) -> u64
     ensures { IsProofIdOf proof_ids.now id result }
 {
     match id {
-        ClauseId::Book(place) => proof_ids[place as usize],
+        ClauseId::Book(index) => proof_ids[index as usize],
         ClauseId::Unit(_) => unreachable!(),
     }
 }
@@ -29,19 +29,17 @@ pub fn proof_id_of(proof_ids: &[u64], id: ClauseId) -> u64
 /// The clause that is learned from one that is false, and wasn't below the present level.
 pub fn analyze(search: &mut Search, conflict: ClauseId) -> Result<LearnedClause, OutOfMemory>
     requires search { (formula : CnfFormula) × IsSearch formula (earlier formula search.old.steps) search.old }
-    requires ready { IsReady search.old.book search.old.trail }
-    requires above { 0 < search.old.trail.level }
-    requires conflict { (clause : List ℤ) × IsClauseOf search.old.book.clauses conflict clause × IsFalsifiedIn (lits search.old.trail.assignments) clause }
+    requires ready { IsReady search.old.premises.book search.old.premises.trail }
+    requires above { 0 < search.old.premises.trail.level }
+    requires conflict { (clause : List ℤ) × IsClauseOf search.old.premises.book.clauses conflict clause × IsFalsifiedIn (lits search.old.premises.trail.assignments) clause }
     ensures stays { search.new ≡ search.old }
     ensures learned_from { IfOk result (λ learned. (formula : CnfFormula) → IsSearch formula (earlier formula search.old.steps) search.old
-        → IsLearnedFrom formula search.old.steps search.old.trail learned) }
+        → IsLearnedFrom formula search.old.steps search.old.premises.trail learned) }
 {
-    let id = proof_id_of(search.proof_ids.as_slice(), conflict);
-    let _ = search.trail.vars();
-    let clause = search.book.clause(conflict);
-    let proof_ids = search.proof_ids.as_slice();
-    let learned = search
-        .analyzer
-        .analyze(&search.trail, &search.book, proof_ids, clause, id)?;
+    let premises = &search.premises;
+    premises.trail.is_well_formed();
+    let id = proof_id_of(premises.proof_ids.as_slice(), conflict);
+    let clause = premises.book.clause(conflict);
+    let learned = search.analyzer.analyze(premises, clause, id)?;
     Ok(learned)
 }

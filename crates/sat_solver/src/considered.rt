@@ -38,9 +38,9 @@ impl Considered {
         requires { var ≤ self.old }
         ensures { self.new ≡ self.old }
     {
-        let place = var as usize;
-        let is_new = !self.considered[place];
-        self.considered[place] = true;
+        let index = var as usize;
+        let is_new = !self.considered[index];
+        self.considered[index] = true;
         is_new
     }
 }

@@ -4,18 +4,18 @@
 mod analysis;
 mod answer;
 mod backjump;
-mod closing;
 mod considered;
-mod deciding;
-mod loading;
+mod decision;
+mod gathered;
+mod input_clauses;
 mod model;
 mod phases;
-mod plain;
+mod refutation;
 mod restart;
 mod root_lemmas;
 mod search;
-mod solving;
+mod solver;
 mod step;
 
 pub use answer::Answer;
-pub use solving::solve;
+pub use solver::solve;

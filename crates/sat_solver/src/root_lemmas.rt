@@ -9,7 +9,7 @@ ghost use Rattle.sat_solver.specs.Ledger.{live};
 ghost use Rattle.sat_solver.specs.Sound.{root};
 ghost use Rattle.sat_solver.specs.Steps.{IsSearchState};
 
-use crate::closing::next_id;
+use crate::refutation::next_id;
 use crate::search::Search;
 use cnf_base::{Clause, CnfLit, Formula};
 use ketch_base::OutOfMemory;
@@ -37,14 +37,16 @@ fn add_root_lemma(
 ) -> Result<(), OutOfMemory>
     requires state { IsSearchState formula.now lemmas search.old }
     requires room { length search.old.steps < lemmas }
-    requires root { (place : ℕ) × Contains search.old.trail.assignments (root lit (ClauseId.Book place)) }
+    requires root { (place : ℕ) × Contains search.old.premises.trail.assignments (root lit (ClauseId.Book place)) }
     requires follows { Follows (live formula.now search.old.steps) (neg_ℤ lit ∷ []) hints }
     ensures state { OnOk result (IsSearchState formula.now lemmas search.new) }
     ensures named { OnOk result ((id : ℕ) × (search.new.steps ≡ search.old.steps ++ LratStep.Add id (lit ∷ []) hints ∷ [])
-        × Contains search.new.trail.assignments (root lit (ClauseId.Unit id))) }
-    ensures stays { OnOk result (marks search.new.trail.assignments ≡ marks search.old.trail.assignments) }
+        × Contains search.new.premises.trail.assignments (root lit (ClauseId.Unit id))) }
+    ensures stays { OnOk result (marks search.new.premises.trail.assignments ≡ marks search.old.premises.trail.assignments) }
 {
-    let _ = (lemmas, search.trail.vars(), search.book.vars());
+    let _ = lemmas;
+    search.premises.trail.is_well_formed();
+    search.premises.book.is_well_formed();
     let id = next_id(formula, &search.steps);
     let lemma = Clause::from_slice(alloc, &[lit])?;
     search.steps.push(LratStep::Add {
@@ -52,7 +54,10 @@ fn add_root_lemma(
         lits: lemma,
         hints,
     })?;
-    search.trail.set_reason(lit.var(), ClauseId::Unit(id));
+    search
+        .premises
+        .trail
+        .set_reason(lit.var(), ClauseId::Unit(id));
     Ok(())
 }
 
@@ -76,26 +81,23 @@ fn consider(
     lemmas: u64,
 ) -> Result<(), OutOfMemory>
     requires state { IsSearchState formula.now lemmas search.old }
-    requires at_root { place < length (upto 0 search.old.trail.assignments) }
+    requires at_root { place < length (upto 0 search.old.premises.trail.assignments) }
     ensures state { OnOk result (IsSearchState formula.now lemmas search.new) }
     ensures more { OnOk result (length search.old.steps ≤ length search.new.steps) }
-    ensures stays { OnOk result (marks search.new.trail.assignments ≡ marks search.old.trail.assignments) }
+    ensures stays { OnOk result (marks search.new.premises.trail.assignments ≡ marks search.old.premises.trail.assignments) }
 {
-    let _ = (search.trail.vars(), search.trail.len());
+    search.premises.trail.is_well_formed();
     if !has_room(search, lemmas) {
         return Ok(());
     }
-    let lit = search.trail.at(place);
-    let Some(ClauseId::Book(_)) = search.trail.reason_of(lit.var()) else {
+    let lit = search.premises.trail.at(place);
+    let Some(ClauseId::Book(_)) = search.premises.trail.reason_of(lit.var()) else {
         return Ok(());
     };
     if !search.considered.insert(lit.var()) {
         return Ok(());
     }
-    let proof_ids = search.proof_ids.as_slice();
-    let explained = search
-        .analyzer
-        .explain(&search.trail, &search.book, proof_ids, place)?;
+    let explained = search.analyzer.explain(&search.premises, place)?;
     if let Some(hints) = explained
         && hints.len() > MOST_HINTS
     {
@@ -113,10 +115,10 @@ pub fn add_root_lemmas(
     lemmas: u64,
 ) -> Result<(), OutOfMemory>
     requires state { IsSearchState formula.now lemmas search.old }
-    requires at_root { AreAtRoot search.old.trail.assignments roots.now }
+    requires at_root { AreAtRoot search.old.premises.trail.assignments roots.now }
     ensures state { OnOk result (IsSearchState formula.now lemmas search.new) }
     ensures more { OnOk result (length search.old.steps ≤ length search.new.steps) }
-    ensures stays { OnOk result (marks search.new.trail.assignments ≡ marks search.old.trail.assignments) }
+    ensures stays { OnOk result (marks search.new.premises.trail.assignments ≡ marks search.old.premises.trail.assignments) }
 {
     for place in roots.iter().rev() {
         consider(alloc, formula, search, *place, lemmas)?;

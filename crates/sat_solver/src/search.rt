@@ -7,7 +7,7 @@ use crate::considered::Considered;
 use crate::phases::Phases;
 use ketch_base::OutOfMemory;
 use lrat_text::Proof;
-use sat_learn::Analyzer;
+use sat_learn::{Analyzer, Premises};
 use sat_queue::VarQueue;
 use sat_trail::Trail;
 use sat_watch::ClauseBook;
@@ -15,10 +15,7 @@ use std::alloc::Global;
 
 #[derive(Drop)]
 pub struct Search {
-    pub trail: Trail,
-    pub book: ClauseBook,
-    /// The ids in the proof of the book's clauses, by place.
-    pub proof_ids: Vec<u64>,
+    pub premises: Premises,
     pub queue: VarQueue,
     /// A variable of the queue before which all are assigned; none where there is no variable.
     pub from: Option<u32>,
@@ -31,13 +28,26 @@ pub struct Search {
     pub conflicts: usize,
 }
 
+/// With no clause and nothing assigned.
+fn no_premises(alloc: Global, vars: u32) -> Result<Premises, OutOfMemory>
+    requires { vars ≤ 4000000 }
+    ensures trail { IfOk result (λ p. p.trail ≡ record { vars = vars; assignments = []; level = 0; low = 0 }) }
+    ensures book { IfOk result (λ p. p.book ≡ record { vars = vars; clauses = []; seen = [] }) }
+    ensures proof_ids { IfOk result (λ p. p.proof_ids.items ≡ []) }
+{
+    Ok(Premises {
+        trail: Trail::new(alloc, vars)?,
+        book: ClauseBook::new(alloc, vars)?,
+        proof_ids: Vec::new(alloc),
+    })
+}
+
 impl Search {
-    /// With no clause and nothing assigned.
     pub fn new(alloc: Global, vars: u32) -> Result<Search, OutOfMemory>
         requires { vars ≤ 4000000 }
-        ensures trail { IfOk result (λ s. s.trail ≡ record { vars = vars; assignments = []; level = 0; low = 0 }) }
-        ensures book { IfOk result (λ s. s.book ≡ record { vars = vars; clauses = []; seen = [] }) }
-        ensures proof_ids { IfOk result (λ s. s.proof_ids.items ≡ []) }
+        ensures trail { IfOk result (λ s. s.premises.trail ≡ record { vars = vars; assignments = []; level = 0; low = 0 }) }
+        ensures book { IfOk result (λ s. s.premises.book ≡ record { vars = vars; clauses = []; seen = [] }) }
+        ensures proof_ids { IfOk result (λ s. s.premises.proof_ids.items ≡ []) }
         ensures steps { IfOk result (λ s. s.steps ≡ []) }
         ensures queue { IfOk result (λ s. s.queue ≡ range_with_len 1 vars) }
         ensures from { IfOk result (λ s. s.from ≡ slice_get s.queue 0) }
@@ -49,9 +59,7 @@ impl Search {
         let queue = VarQueue::new(alloc, vars)?;
         let from = queue.first();
         Ok(Search {
-            trail: Trail::new(alloc, vars)?,
-            book: ClauseBook::new(alloc, vars)?,
-            proof_ids: Vec::new(alloc),
+            premises: no_premises(alloc, vars)?,
             queue,
             from,
             phases: Phases::new(alloc, vars)?,

@@ -6,12 +6,12 @@ ghost use Rattle.cnf_base.specs.Meaning.{CnfFormula};
 ghost use Rattle.sat_trail.specs.Trail.{lits};
 ghost use Rattle.sat_watch.specs.Book.{IsClauseOf, ScanIs};
 ghost use Rattle.sat_watch.specs.Ready.{IsReady, IsSettled};
-ghost use Rattle.sat_solver.specs.Deciding.{IsPassed};
+ghost use Rattle.sat_solver.specs.Decision.{IsPassed};
 ghost use Rattle.sat_solver.specs.Steps.{IsSearchState, left, AllAssigned, StepIs};
 
 use crate::analysis::analyze;
 use crate::backjump::add_lemma;
-use crate::deciding::next_variable;
+use crate::decision::decide;
 use crate::root_lemmas::add_root_lemmas;
 use crate::search::Search;
 use cnf_base::Formula;
@@ -32,39 +32,16 @@ pub enum Outcome {
 }
 
 fn propagate(search: &mut Search) -> Scan
-    requires { IsReady search.old.book search.old.trail }
+    requires { IsReady search.old.premises.book search.old.premises.trail }
     ensures state { (formula : CnfFormula) (lemmas : ℕ) → IsSearchState formula lemmas search.old → IsSearchState formula lemmas search.new }
     ensures no_more { (lemmas : ℕ) → left lemmas search.new ≤ left lemmas search.old }
-    ensures answer { ScanIs search.new.book.clauses (lits search.new.trail.assignments) result }
-    ensures settled { result ≡ Scan.Quiet → IsSettled search.new.book search.new.trail }
+    ensures answer { ScanIs search.new.premises.book.clauses (lits search.new.premises.trail.assignments) result }
+    ensures settled { result ≡ Scan.Quiet → IsSettled search.new.premises.book search.new.premises.trail }
 {
-    let _ = search.trail.vars();
-    let scan = search.book.propagate(&mut search.trail);
-    let _ = search.trail.len();
+    search.premises.trail.is_well_formed();
+    let scan = search.premises.book.propagate(&mut search.premises.trail);
+    search.premises.trail.is_well_formed();
     scan
-}
-
-/// Decides the next variable, where one is unassigned.
-fn decide(search: &mut Search) -> bool
-    requires settled { IsSettled search.old.book search.old.trail }
-    requires vars { search.old.trail.vars ≡ length search.old.queue }
-    requires phases { search.old.trail.vars ≡ search.old.phases }
-    requires passed { IsPassed search.old.queue search.old.trail.assignments search.old.from }
-    ensures state { (formula : CnfFormula) (lemmas : ℕ) → IsSearchState formula lemmas search.old → IsSearchState formula lemmas search.new }
-    ensures less { IsTrue result → (lemmas : ℕ) → left lemmas search.new < left lemmas search.old }
-    ensures all { IsFalse result → AllAssigned search.new.trail }
-    ensures trail { IsFalse result → search.new.trail ≡ search.old.trail }
-    ensures book { search.new.book ≡ search.old.book }
-{
-    let _ = (search.queue.vars(), search.trail.vars());
-    search.from = next_variable(&search.queue, search.from, &search.trail);
-    let Some(var) = search.from else {
-        return false;
-    };
-    let lit = search.phases.literal(var);
-    search.trail.decide(lit);
-    let _ = search.trail.len();
-    true
 }
 
 /// Learns from a clause that is false above level 0, goes back to where the lemma is unit, and considers lemmas for what it rests on at level 0.
@@ -76,8 +53,8 @@ fn learn(
     lemmas: u64,
 ) -> Result<(), OutOfMemory>
     requires state { IsSearchState formula.now lemmas search.old }
-    requires above { 0 < search.old.trail.level }
-    requires conflict { (clause : List ℤ) × IsClauseOf search.old.book.clauses conflict clause × IsFalsifiedIn (lits search.old.trail.assignments) clause }
+    requires above { 0 < search.old.premises.trail.level }
+    requires conflict { (clause : List ℤ) × IsClauseOf search.old.premises.book.clauses conflict clause × IsFalsifiedIn (lits search.old.premises.trail.assignments) clause }
     requires room { length search.old.steps < lemmas }
     ensures state { OnOk result (IsSearchState formula.now lemmas search.new) }
     ensures less { OnOk result (left lemmas search.new < left lemmas search.old) }
@@ -106,7 +83,7 @@ pub fn take_step(
             Some(Outcome::Satisfied)
         }),
         Scan::Conflict(id) => {
-            if search.trail.level() == 0 {
+            if search.premises.trail.level() == 0 {
                 return Ok(Some(Outcome::Refuted(id)));
             }
             if search.steps.len() as u64 == lemmas {

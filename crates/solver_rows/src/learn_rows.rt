@@ -9,9 +9,10 @@ ghost use Rattle.sat_learn.specs.Reasons.{AreReasons};
 use crate::book_clauses::{add_all, add_chain, lit};
 use crate::book_steps::is_quiet;
 use crate::learn_steps::{
-    analyze, assume, begin, conflict_in, decide_next, explain, is_explained, propagate, refute,
+    analyze, assume, begin, conflict_in, decide_next, explain, is_explained, premises_of,
+    propagate, refute,
 };
-use sat_learn::{Analyzer, LearnedClause};
+use sat_learn::{Analyzer, LearnedClause, Premises};
 use sat_trail::{ClauseId, Trail};
 use sat_watch::{ClauseBook, Scan};
 use std::alloc::Global;
@@ -33,21 +34,19 @@ fn has_hints(learned: LearnedClause, wanted: &[i64]) -> bool {
 fn learn_first_uip(
     rt: &impl Abort,
     alloc: Global,
-    trail: &Trail,
-    book: &ClauseBook,
+    premises: &Premises,
     conflict: ClauseId,
 ) -> Result<(), Fail>
-    requires vars { trail.now.vars ≡ 7 }
-    requires ready { IsReady book.now trail.now }
-    requires reasons { AreReasons book.now.clauses [] trail.now.assignments }
-    requires conflict { ScanIs book.now.clauses (lits trail.now.assignments) (Scan.Conflict conflict) }
+    requires vars { premises.now.trail.vars ≡ 7 }
+    requires ready { IsReady premises.now.book premises.now.trail }
+    requires reasons { AreReasons premises.now.book.clauses [] premises.now.trail.assignments }
+    requires conflict { ScanIs premises.now.book.clauses (lits premises.now.trail.assignments) (Scan.Conflict conflict) }
 {
-    const NAMES: &[u64] = &[11, 12, 13, 14];
     let mut analyzer = Analyzer::new(alloc, 7)?;
-    let learned = analyze(rt, &mut analyzer, trail, book, NAMES, conflict, 14)?;
+    let learned = analyze(rt, &mut analyzer, premises, conflict, 14)?;
     assert!(rt; is_first_uip(rt, &learned));
     assert!(rt; has_hints(learned, &[9, 10, 13, 12, 14]));
-    let again = analyze(rt, &mut analyzer, trail, book, NAMES, conflict, 14)?;
+    let again = analyze(rt, &mut analyzer, premises, conflict, 14)?;
     assert!(rt; again.backjump_level() == 1);
     Ok(())
 }
@@ -66,23 +65,23 @@ fn first_uip_after_the_decision_is_found(rt: HostRuntime) -> Result<(), Fail> {
     decide_next(&rt, &mut book, &mut trail, 2);
     let conflict = conflict_in(&rt, &mut book, &mut trail);
     assert!(rt; conflict == ClauseId::Book(3));
-    learn_first_uip(&rt, rt.alloc(), &trail, &book, conflict)
+    let premises = premises_of(rt.alloc(), trail, book, &[11, 12, 13, 14])?;
+    learn_first_uip(&rt, rt.alloc(), &premises, conflict)
 }
 
 /// Refutes by the conflict of the next test.
 fn refute_root(
     rt: &impl Abort,
     alloc: Global,
-    trail: &Trail,
-    book: &ClauseBook,
+    premises: &Premises,
     conflict: ClauseId,
 ) -> Result<(), Fail>
-    requires vars { trail.now.vars ≡ 2 }
-    requires reasons { AreReasons book.now.clauses [] trail.now.assignments }
-    requires conflict { ScanIs book.now.clauses (lits trail.now.assignments) (Scan.Conflict conflict) }
+    requires vars { premises.now.trail.vars ≡ 2 }
+    requires reasons { AreReasons premises.now.book.clauses [] premises.now.trail.assignments }
+    requires conflict { ScanIs premises.now.book.clauses (lits premises.now.trail.assignments) (Scan.Conflict conflict) }
 {
     let mut analyzer = Analyzer::new(alloc, 2)?;
-    let hints = refute(rt, &mut analyzer, trail, book, &[1, 2], conflict, 2)?;
+    let hints = refute(rt, &mut analyzer, premises, conflict, 2)?;
     assert!(rt; hints.into_vec().as_slice() == [5, 1, 2].as_slice());
     Ok(())
 }
@@ -96,23 +95,18 @@ fn conflict_at_the_root_is_refuted(rt: HostRuntime) -> Result<(), Fail> {
     begin(&book, &trail);
     assume(&rt, &book, &mut trail, -1, 5);
     let conflict = conflict_in(&rt, &mut book, &mut trail);
-    refute_root(&rt, rt.alloc(), &trail, &book, conflict)
+    let premises = premises_of(rt.alloc(), trail, book, &[1, 2])?;
+    refute_root(&rt, rt.alloc(), &premises, conflict)
 }
 
 /// Explains the last assignment of the next test and the first.
-fn explains_root(
-    rt: &impl Abort,
-    alloc: Global,
-    trail: &Trail,
-    book: &ClauseBook,
-) -> Result<bool, Fail>
-    requires vars { trail.now.vars ≡ 4 }
-    requires reasons { AreReasons book.now.clauses [] trail.now.assignments }
+fn explains_root(rt: &impl Abort, alloc: Global, premises: &Premises) -> Result<bool, Fail>
+    requires vars { premises.now.trail.vars ≡ 4 }
+    requires reasons { AreReasons premises.now.book.clauses [] premises.now.trail.assignments }
 {
-    const NAMES: &[u64] = &[11, 12, 13];
     let mut analyzer = Analyzer::new(alloc, 4)?;
-    let last = is_explained(rt, &mut analyzer, trail, book, NAMES, 3, &[9, 11, 12, 13])?;
-    let unit = is_explained(rt, &mut analyzer, trail, book, NAMES, 0, &[9])?;
+    let last = is_explained(rt, &mut analyzer, premises, 3, &[9, 11, 12, 13])?;
+    let unit = is_explained(rt, &mut analyzer, premises, 0, &[9])?;
     Ok(last && unit)
 }
 
@@ -133,24 +127,19 @@ fn chain_at_the_root_is_explained(rt: HostRuntime) -> Result<(), Fail> {
     assume(&rt, &book, &mut trail, 1, 9);
     let scan = propagate(&mut book, &mut trail);
     assert!(rt; is_quiet(scan));
-    assert!(rt; explains_root(&rt, rt.alloc(), &trail, &book)?);
+    let premises = premises_of(rt.alloc(), trail, book, &[11, 12, 13])?;
+    assert!(rt; explains_root(&rt, rt.alloc(), &premises)?);
     Ok(())
 }
 
 /// Of a chain of 501 clauses the last variable isn't explained, and the one before is.
-fn explain_deep(
-    rt: &impl Abort,
-    alloc: Global,
-    trail: &Trail,
-    book: &ClauseBook,
-) -> Result<bool, Fail>
-    requires vars { trail.now.vars ≡ 502 }
-    requires reasons { AreReasons book.now.clauses [] trail.now.assignments }
+fn explain_deep(rt: &impl Abort, alloc: Global, premises: &Premises) -> Result<bool, Fail>
+    requires vars { premises.now.trail.vars ≡ 502 }
+    requires reasons { AreReasons premises.now.book.clauses [] premises.now.trail.assignments }
 {
-    const NAMES: &[u64] = &[7; 501];
     let mut analyzer = Analyzer::new(alloc, 502)?;
-    let last = explain(rt, &mut analyzer, trail, book, NAMES, 501)?;
-    let Some(before) = explain(rt, &mut analyzer, trail, book, NAMES, 500)? else {
+    let last = explain(rt, &mut analyzer, premises, 501)?;
+    let Some(before) = explain(rt, &mut analyzer, premises, 500)? else {
         return Ok(false);
     };
     Ok(last.is_none() && before.len() == 501)
@@ -166,6 +155,7 @@ fn chain_that_is_too_deep_is_left(rt: HostRuntime) -> Result<(), Fail> {
     assume(&rt, &book, &mut trail, 1, 9);
     let scan = propagate(&mut book, &mut trail);
     assert!(rt; is_quiet(scan));
-    assert!(rt; explain_deep(&rt, rt.alloc(), &trail, &book)?);
+    let premises = premises_of(rt.alloc(), trail, book, &[7; 501])?;
+    assert!(rt; explain_deep(&rt, rt.alloc(), &premises)?);
     Ok(())
 }

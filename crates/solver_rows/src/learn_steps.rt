@@ -1,6 +1,6 @@
 //! A book, its trail and what is learned from them, step by step.
 
-ghost use Rattle.std.specs.Prelude.{◌≡◌, ◌↔◌, ◌<◌, ◌^◌, [], All, IsTrue};
+ghost use Rattle.std.specs.Prelude.{◌≡◌, ◌<◌, ◌^◌, [], All, IsTrue, IfOk};
 ghost use Rattle.sat_trail.specs.Trail.{lits};
 ghost use Rattle.sat_watch.specs.Book.{ScanIs};
 ghost use Rattle.sat_watch.specs.Ready.{IsReady, IsSettled};
@@ -9,9 +9,10 @@ ghost use Rattle.sat_learn.specs.Reasons.{AreReasons};
 use crate::book_clauses::lit;
 use crate::book_steps::is_quiet;
 use lrat_text::Hints;
-use sat_learn::{Analyzer, LearnedClause};
+use sat_learn::{Analyzer, LearnedClause, Premises};
 use sat_trail::{ClauseId, Trail, Value};
 use sat_watch::{ClauseBook, Scan};
+use std::alloc::Global;
 use std::process::Abort;
 use std::test::Fail;
 
@@ -25,7 +26,7 @@ pub fn begin(book: &ClauseBook, trail: &Trail)
     let _ = trail;
 }
 
-/// Puts the literal of a unit clause at level 0.
+/// Assigns the literal of a unit clause at level 0.
 pub fn assume(rt: &impl Abort, book: &ClauseBook, trail: &mut Trail, value: i32, id: u64)
     requires ready { IsReady book.now trail.old }
     requires reasons { AreReasons book.now.clauses [] trail.old.assignments }
@@ -118,70 +119,81 @@ fn are_small(proof_ids: &[u64]) -> bool
     true
 }
 
+/// A trail and a book, whose clauses have these ids in a proof.
+pub fn premises_of(
+    alloc: Global,
+    trail: Trail,
+    book: ClauseBook,
+    proof_ids: &[u64],
+) -> Result<Premises, Fail>
+    ensures trail { IfOk result (λ p. p.trail ≡ trail) }
+    ensures book { IfOk result (λ p. p.book ≡ book) }
+{
+    Ok(Premises {
+        trail,
+        book,
+        proof_ids: Vec::from_slice(alloc, proof_ids)?,
+    })
+}
+
 pub fn analyze(
     rt: &impl Abort,
     analyzer: &mut Analyzer,
-    trail: &Trail,
-    book: &ClauseBook,
-    proof_ids: &[u64],
+    premises: &Premises,
     conflict: ClauseId,
     id: u64,
 ) -> Result<LearnedClause, Fail>
-    requires vars { trail.now.vars ≡ analyzer.old }
-    requires ready { IsReady book.now trail.now }
-    requires reasons { AreReasons book.now.clauses [] trail.now.assignments }
-    requires conflict { ScanIs book.now.clauses (lits trail.now.assignments) (Scan.Conflict conflict) }
+    requires vars { premises.now.trail.vars ≡ analyzer.old }
+    requires ready { IsReady premises.now.book premises.now.trail }
+    requires reasons { AreReasons premises.now.book.clauses [] premises.now.trail.assignments }
+    requires conflict { ScanIs premises.now.book.clauses (lits premises.now.trail.assignments) (Scan.Conflict conflict) }
     ensures { analyzer.new ≡ analyzer.old }
 {
-    assert!(rt; trail.level() > 0);
+    assert!(rt; premises.trail.level() > 0);
     assert!(rt; id < 1 << 62);
-    assert!(rt; proof_ids.len() == book.len());
-    let small = are_small(proof_ids);
+    assert!(rt; premises.proof_ids.len() == premises.book.len());
+    let small = are_small(&premises.proof_ids);
     assert!(rt; small);
-    let learned = analyzer.analyze(trail, book, proof_ids, book.clause(conflict), id)?;
+    let learned = analyzer.analyze(premises, premises.book.clause(conflict), id)?;
     Ok(learned)
 }
 
 pub fn refute(
     rt: &impl Abort,
     analyzer: &mut Analyzer,
-    trail: &Trail,
-    book: &ClauseBook,
-    proof_ids: &[u64],
+    premises: &Premises,
     conflict: ClauseId,
     id: u64,
 ) -> Result<Hints, Fail>
-    requires vars { trail.now.vars ≡ analyzer.old }
-    requires reasons { AreReasons book.now.clauses [] trail.now.assignments }
-    requires conflict { ScanIs book.now.clauses (lits trail.now.assignments) (Scan.Conflict conflict) }
+    requires vars { premises.now.trail.vars ≡ analyzer.old }
+    requires reasons { AreReasons premises.now.book.clauses [] premises.now.trail.assignments }
+    requires conflict { ScanIs premises.now.book.clauses (lits premises.now.trail.assignments) (Scan.Conflict conflict) }
     ensures { analyzer.new ≡ analyzer.old }
 {
-    assert!(rt; trail.level() == 0);
+    assert!(rt; premises.trail.level() == 0);
     assert!(rt; id < 1 << 62);
-    assert!(rt; proof_ids.len() == book.len());
-    let small = are_small(proof_ids);
+    assert!(rt; premises.proof_ids.len() == premises.book.len());
+    let small = are_small(&premises.proof_ids);
     assert!(rt; small);
-    let hints = analyzer.refute(trail, book, proof_ids, book.clause(conflict), id)?;
+    let hints = analyzer.refute(premises, premises.book.clause(conflict), id)?;
     Ok(hints)
 }
 
 pub fn explain(
     rt: &impl Abort,
     analyzer: &mut Analyzer,
-    trail: &Trail,
-    book: &ClauseBook,
-    proof_ids: &[u64],
+    premises: &Premises,
     place: u32,
 ) -> Result<Option<Vec<i64>>, Fail>
-    requires vars { trail.now.vars ≡ analyzer.old }
-    requires reasons { AreReasons book.now.clauses [] trail.now.assignments }
+    requires vars { premises.now.trail.vars ≡ analyzer.old }
+    requires reasons { AreReasons premises.now.book.clauses [] premises.now.trail.assignments }
     ensures { analyzer.new ≡ analyzer.old }
 {
-    assert!(rt; place < trail.len_upto(0));
-    assert!(rt; proof_ids.len() == book.len());
-    let small = are_small(proof_ids);
+    assert!(rt; place < premises.trail.len_upto(0));
+    assert!(rt; premises.proof_ids.len() == premises.book.len());
+    let small = are_small(&premises.proof_ids);
     assert!(rt; small);
-    match analyzer.explain(trail, book, proof_ids, place)? {
+    match analyzer.explain(premises, place)? {
         Some(hints) => Ok(Some(hints.into_vec())),
         None => Ok(None),
     }
@@ -191,17 +203,15 @@ pub fn explain(
 pub fn is_explained(
     rt: &impl Abort,
     analyzer: &mut Analyzer,
-    trail: &Trail,
-    book: &ClauseBook,
-    proof_ids: &[u64],
+    premises: &Premises,
     place: u32,
     wanted: &[i64],
 ) -> Result<bool, Fail>
-    requires vars { trail.now.vars ≡ analyzer.old }
-    requires reasons { AreReasons book.now.clauses [] trail.now.assignments }
+    requires vars { premises.now.trail.vars ≡ analyzer.old }
+    requires reasons { AreReasons premises.now.book.clauses [] premises.now.trail.assignments }
     ensures { analyzer.new ≡ analyzer.old }
 {
-    match explain(rt, analyzer, trail, book, proof_ids, place)? {
+    match explain(rt, analyzer, premises, place)? {
         Some(hints) => Ok(hints.as_slice() == wanted),
         None => Ok(false),
     }

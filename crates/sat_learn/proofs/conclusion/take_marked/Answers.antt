@@ -4,7 +4,7 @@ use Rattle.std.proofs.lemmas.List.Elements.{All-get_or}
 use Rattle.sat_learn.specs.Tracking.{IsTaken}
 use Rattle.sat_learn.proofs.Taken.{taken_first, taken_more, taken_less}
 use Rattle.sat_learn.proofs.conclusion.take_marked.Goals as goal
-use Rattle.sat_learn.proofs.conclusion.take_marked.Goals.{then-marks-place+in_ok-push-2, else-marks-place}
+use Rattle.sat_learn.proofs.conclusion.take_marked.Goals.{then-marks-index+in_ok-push-2, else-marks-index}
 
 pub loop-lit-init : goal.loop-lit-init
 loop-lit-init c =
@@ -22,13 +22,13 @@ loop-lit-preserved c =
     let lit = c.lit-item.result in
     let after : List Bool → List ℤ → Type 0 = λ ms ls. IsTaken old ms (take (i + 1) kept) c.args.first ls in
     let M : List ℤ → List Bool → Type 0 = λ ls ms. after ms ls in
-    elim c.if-marks-place.branch [
-      | then-marks-place+in_ok-push-2 w ↦ (let Q : ℤ → Type 0 = λ l. nat_abs l < length old in
+    elim c.if-marks-index.branch [
+      | then-marks-index+in_ok-push-2 w ↦ (let Q : ℤ → Type 0 = λ l. nat_abs l < length old in
           let small = subst Q (sym c.lit-item.is) (All-get_or (λ l. nat_abs l < length old) kept i lit c.loop-lit-test.true c.requires.kept) in
-          let room : c.var-place.result < length c.loop-lit.marks = omega (arith, small, c.var-place.ensures.size, c.loop-lit.auto.marks, length-set old c.var.result false) in
-          let taken_is : c.if-marks-place.taken.items ≡ c.loop-lit.taken.items ++ lit ∷ [] = ap (λ v. v.items) w.taken-is ∙ w.in_ok-push-2.ensures.items in
-          subst (after c.if-marks-place.marks) (sym taken_is) (subst (M (c.loop-lit.taken.items ++ lit ∷ [])) (sym w.marks-is)
-          (taken_more old c.loop-lit.marks kept i c.var-place.result lit c.args.first c.loop-lit.taken.items c.loop-lit-test.true c.lit-item.is c.var-place.ensures.size room w.if-marks-place.true c.loop-lit.invariant)))
-      | else-marks-place w ↦ subst (after c.if-marks-place.marks) (sym (ap (λ v. v.items) w.taken-is)) (subst (M c.loop-lit.taken.items) (sym w.marks-is)
-          (taken_less old c.loop-lit.marks kept i c.var-place.result lit c.args.first c.loop-lit.taken.items c.loop-lit-test.true c.lit-item.is c.var-place.ensures.size w.if-marks-place.false c.loop-lit.invariant))
+          let room : c.var-index.result < length c.loop-lit.marks = omega (arith, small, c.var-index.ensures.size, c.loop-lit.auto.marks, length-set old c.var.result false) in
+          let taken_is : c.if-marks-index.taken.items ≡ c.loop-lit.taken.items ++ lit ∷ [] = ap (λ v. v.items) w.taken-is ∙ w.in_ok-push-2.ensures.items in
+          subst (after c.if-marks-index.marks) (sym taken_is) (subst (M (c.loop-lit.taken.items ++ lit ∷ [])) (sym w.marks-is)
+          (taken_more old c.loop-lit.marks kept i c.var-index.result lit c.args.first c.loop-lit.taken.items c.loop-lit-test.true c.lit-item.is c.var-index.ensures.size room w.if-marks-index.true c.loop-lit.invariant)))
+      | else-marks-index w ↦ subst (after c.if-marks-index.marks) (sym (ap (λ v. v.items) w.taken-is)) (subst (M c.loop-lit.taken.items) (sym w.marks-is)
+          (taken_less old c.loop-lit.marks kept i c.var-index.result lit c.args.first c.loop-lit.taken.items c.loop-lit-test.true c.lit-item.is c.var-index.ensures.size w.if-marks-index.false c.loop-lit.invariant))
     ]

@@ -1,5 +1,6 @@
 use Rattle.std.proofs.Common.{◌<◌}
-use Rattle.sat_learn.specs.Resolving.{IsLastMarked, Resolves}
+use Rattle.sat_learn.specs.Premises.{ResolvesIn}
+use Rattle.sat_learn.specs.Resolving.{IsLastMarked}
 use Rattle.sat_learn.specs.Tracking.{IsTracked}
 use Rattle.sat_learn.proofs.first_uip.resolve.Given as goal
 
@@ -7,10 +8,10 @@ use Rattle.sat_learn.proofs.first_uip.resolve.Given as goal
 abbrev pub invariant-loop-analysis : goal.invariant-loop-analysis
 invariant-loop-analysis l =
     record {
-      tracked : IsTracked l.trail l.marks l.analysis.kept.items l.analysis.rooted l.analysis.open_count;
-      last : IsLastMarked l.trail l.marks l.at;
+      tracked : IsTracked l.premises.trail l.marks l.analysis.kept.items l.analysis.rooted l.analysis.open_count;
+      last : IsLastMarked l.premises.trail l.marks l.at;
       count : 0 < l.analysis.open_count;
-      resolves : Resolves l.book.clauses l.proof_ids l.trail.assignments l.initial.marks l.initial.analysis.hints.items l.marks l.analysis.hints.items;
+      resolves : ResolvesIn l.premises l.initial.marks l.initial.analysis.hints.items l.marks l.analysis.hints.items;
     }
 
 abbrev pub decreases-loop-analysis : goal.decreases-loop-analysis

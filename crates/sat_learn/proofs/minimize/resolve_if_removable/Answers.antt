@@ -5,15 +5,15 @@ use Rattle.sat_learn.proofs.minimize.resolve_if_removable.Goals as goal
 
 pub slice_copy_out-found : goal.slice_copy_out-found
 slice_copy_out-found c =
-    let literal = true_literal c.args.trail.now (neg_ℤ c.args.lit) c.requires.explained.trail c.requires.false_now in
-    omega (arith, literal.variable, nat_abs-neg_ℤ c.args.lit, c.var-place.ensures.size, c.requires.room)
+    let literal = true_literal c.args.premises.now.trail (neg_ℤ c.args.lit) c.requires.explained.trail c.requires.false_now in
+    omega (arith, literal.variable, nat_abs-neg_ℤ c.args.lit, c.var-index.ensures.size, c.requires.room)
 
-pub bounds-visits-place : goal.bounds-visits-place
-bounds-visits-place c =
-    let literal = true_literal c.args.trail.now (neg_ℤ c.args.lit) c.requires.explained.trail c.requires.false_now in
-    omega (arith, literal.variable, nat_abs-neg_ℤ c.args.lit, c.var-place.ensures.size, c.requires.room)
+pub bounds-visits-index : goal.bounds-visits-index
+bounds-visits-index c =
+    let literal = true_literal c.args.premises.now.trail (neg_ℤ c.args.lit) c.requires.explained.trail c.requires.false_now in
+    omega (arith, literal.variable, nat_abs-neg_ℤ c.args.lit, c.var-index.ensures.size, c.requires.room)
 
-pub bounds-marks-place : goal.bounds-marks-place
-bounds-marks-place c =
-    let literal = true_literal c.args.trail.now (neg_ℤ c.args.lit) c.requires.explained.trail c.requires.false_now in
-    omega (arith, literal.variable, nat_abs-neg_ℤ c.args.lit, c.var-place.ensures.size, c.requires.tracked.room)
+pub bounds-marks-index : goal.bounds-marks-index
+bounds-marks-index c =
+    let literal = true_literal c.args.premises.now.trail (neg_ℤ c.args.lit) c.requires.explained.trail c.requires.false_now in
+    omega (arith, literal.variable, nat_abs-neg_ℤ c.args.lit, c.var-index.ensures.size, c.requires.tracked.room)

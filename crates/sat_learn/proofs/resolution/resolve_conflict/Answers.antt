@@ -10,17 +10,17 @@ pub note_all-requires-clause-tracked : goal.note_all-requires-clause-tracked
 note_all-requires-clause-tracked c =
     let begun = c.new_analysis-analysis.ensures in
     let a = c.new_analysis-analysis.result in
-    track_begun c.args.trail.now c.args.marks.now a.kept.items a.rooted a.open_count begun.kept begun.rooted begun.count c.requires.above c.requires.room c.requires.unmarked
+    track_begun c.args.premises.now.trail c.args.marks.now a.kept.items a.rooted a.open_count begun.kept begun.rooted begun.count c.requires.above c.requires.room c.requires.unmarked
 
 pub resolve-requires-clause-count : goal.resolve-requires-clause-count
 resolve-requires-clause-count c =
     let a = c.note_all.new.analysis in
     let marked = conflict_marked c.args.marks.now c.note_all.new.marks c.args.conflict.now c.in_ok-note_all.ensures.marks in
-    conflict_open c.args.trail.now c.note_all.new.marks a.kept.items a.rooted a.open_count c.args.conflict.now c.requires.explained.trail c.in_ok-note_all.ensures.tracked marked c.requires.false_now c.requires.not_before
+    conflict_open c.args.premises.now.trail c.note_all.new.marks a.kept.items a.rooted a.open_count c.args.conflict.now c.requires.explained.trail c.in_ok-note_all.ensures.tracked marked c.requires.false_now c.requires.not_before
 
 pub conclude-requires-clause-minimized : goal.conclude-requires-clause-minimized
 conclude-requires-clause-minimized c =
-    let t = c.args.trail.now in
+    let t = c.args.premises.now.trail in
     let a = c.minimize_clause.new.analysis in
     let after = c.resolve_any_roots.new.marks in
     let place = c.in_ok-place.place in
@@ -33,7 +33,7 @@ conclude-requires-clause-minimized c =
 
 pub returns-clause-follows : goal.returns-clause-follows
 returns-clause-follows c live id hint_is has_id conflict_with_id =
-    let t = c.args.trail.now in
+    let t = c.args.premises.now.trail in
     let hints = c.note_all.new.analysis.hints.items in
     let pushed : hints ≡ [] ++ c.args.hint ∷ [] =
     ap (λ v. v.items) c.in_ok-note_all.ensures.hints ∙ c.in_ok-push.ensures.items

@@ -1,18 +1,19 @@
 use Rattle.std.proofs.Common.{◌≤◌, length}
 use Rattle.sat_trail.specs.Trail.{upto}
+use Rattle.sat_learn.specs.Premises.{ResolvesIn}
 use Rattle.sat_learn.specs.Learned.{AreAtRoot}
-use Rattle.sat_learn.specs.Resolving.{AreRootsClear, DifferAtRoots, Resolves}
+use Rattle.sat_learn.specs.Resolving.{AreRootsClear, DifferAtRoots}
 use Rattle.sat_learn.proofs.roots.resolve_roots.Given as goal
 
 -- the literals of level 0 from the place on aren't marked
 abbrev pub invariant-loop-place : goal.invariant-loop-place
 invariant-loop-place l =
     record {
-      within : l.place ≤ length (upto 0 l.trail.assignments);
-      clear : AreRootsClear l.trail.assignments l.marks l.place;
-      others : DifferAtRoots l.trail.assignments l.initial.marks l.marks;
-      resolves : Resolves l.book.clauses l.proof_ids l.trail.assignments l.initial.marks l.initial.hints.items l.marks l.hints.items;
-      roots : AreAtRoot l.trail.assignments l.roots.items;
+      within : l.place ≤ length (upto 0 l.premises.trail.assignments);
+      clear : AreRootsClear l.premises.trail.assignments l.marks l.place;
+      others : DifferAtRoots l.premises.trail.assignments l.initial.marks l.marks;
+      resolves : ResolvesIn l.premises l.initial.marks l.initial.hints.items l.marks l.hints.items;
+      roots : AreAtRoot l.premises.trail.assignments l.roots.items;
     }
 
 abbrev pub decreases-loop-place : goal.decreases-loop-place

@@ -3,8 +3,8 @@ use Rattle.std.proofs.lemmas.List.{length_push}
 use Rattle.lrat_text.specs.declared.proof.LratStep.{LratStep}
 use Rattle.lrat_text.specs.declared.proof.LratStep.TheVariants.{Add}
 use Rattle.sat_trail.specs.Trail.{TrailState, IsTrail}
-use Rattle.sat_solver.specs.Deciding.{IsPassed}
-use Rattle.sat_solver.specs.Attaching.{CanAttach, Attaches}
+use Rattle.sat_solver.specs.Decision.{IsPassed}
+use Rattle.sat_solver.specs.Attachment.{CanAttach, Attaches}
 use Rattle.sat_solver.specs.Ledger.{earlier, live, IsLedger}
 use Rattle.sat_solver.specs.Sound.{IsSound}
 use Rattle.sat_solver.proofs.Attachment.{ready_held}
@@ -16,38 +16,38 @@ use Rattle.sat_solver.proofs.backjump.add_lemma.Goals as goal
 pub attach-requires-clause-fits : goal.attach-requires-clause-fits
 attach-requires-clause-fits c =
     let search = c.args.search.now in
-    let b = search.book in
+    let b = search.premises.book in
     let level = c.level_after-level.result in
     let le : level ≤ c.args.learned.backjump_level = omega (arith, c.level_after-level.ensures, c.backjump_level.ensures) in
     let s = c.requires.search.sound in
     let P : List ℤ → Type 0 = λ ls. CanAttach ls b c.back_to.new.self in
     let Q : TrailState → Type 0 = λ t. CanAttach c.args.learned.lits b t in
-    subst P (sym (c.in_ok-lemma.ensures ∙ c.lits.ensures)) (subst Q (sym c.back_to.ensures) (learned_fits b search.trail c.args.learned level (s.book_vars ∙ sym s.trail_vars) c.vars.ensures.well_formed c.requires.learned_from.is_learned le))
+    subst P (sym (c.in_ok-lemma.ensures ∙ c.lits.ensures)) (subst Q (sym c.back_to.ensures) (learned_fits b search.premises.trail c.args.learned level (s.book_vars ∙ sym s.trail_vars) c.is_well_formed.ensures c.requires.learned_from.is_learned le))
 
 pub returns-clause-search : goal.returns-clause-search
 returns-clause-search c =
     let search = c.args.search.now in
     let formula = c.args.formula.now in
     let learned = c.args.learned in
-    let b = search.book in
-    let t = search.trail in
+    let b = search.premises.book in
+    let t = search.premises.trail in
     let id = c.next_id-id.result in
     let level = c.level_after-level.result in
     let le : level ≤ learned.backjump_level = omega (arith, c.level_after-level.ensures, c.backjump_level.ensures) in
     let h = c.requires.search in
     let lemma_is = c.in_ok-lemma.ensures ∙ c.lits.ensures in
-    let P : List ℤ → Type 0 = λ ls. Attaches ls id b c.back_to.new.self search.proof_ids.items c.attach.new.book c.attach.new.trail c.attach.new.proof_ids.items in
-    let Q : TrailState → Type 0 = λ x. Attaches learned.lits id b x search.proof_ids.items c.attach.new.book c.attach.new.trail c.attach.new.proof_ids.items in
+    let P : List ℤ → Type 0 = λ ls. Attaches ls id b c.back_to.new.self search.premises.proof_ids.items c.attach.new.premises.book c.attach.new.premises.trail c.attach.new.premises.proof_ids.items in
+    let Q : TrailState → Type 0 = λ x. Attaches learned.lits id b x search.premises.proof_ids.items c.attach.new.premises.book c.attach.new.premises.trail c.attach.new.premises.proof_ids.items in
     let attached = subst Q c.back_to.ensures (subst P lemma_is c.in_ok-attach.ensures) in
     let T : TrailState → Type 0 = λ x. IsTrail x in
-    let backjump_level = subst T c.back_to.ensures c.len.ensures.well_formed in
+    let backjump_level = subst T c.back_to.ensures c.is_well_formed-2.ensures in
     let made : List ℤ → List ℤ → List LratStep = λ ls hints. search.steps ++ Add id ls hints ∷ [] in
     let steps_are : c.push.new.self ≡ made learned.lits learned.hints = c.in_ok-push.ensures.ok ∙ ap (λ ls. made ls c.into_hints.result) lemma_is ∙ ap (made learned.lits) c.into_hints.ensures in
     let few : id < 2 ^ 62 = omega (arith, c.next_id-id.ensures, h.few_clauses, h.few_steps) in
-    let sound = sound_kept formula search.steps search.proof_ids.items c.attach.new.proof_ids.items b c.attach.new.book t c.attach.new.trail learned level id learned.hints h.sound c.vars.ensures.well_formed c.requires.learned_from.is_learned le backjump_level c.next_id-id.ensures few attached in
+    let sound = sound_kept formula search.steps search.premises.proof_ids.items c.attach.new.premises.proof_ids.items b c.attach.new.premises.book t c.attach.new.premises.trail learned level id learned.hints h.sound c.is_well_formed.ensures c.requires.learned_from.is_learned le backjump_level c.next_id-id.ensures few attached in
     let ledger = ledger_kept formula search.steps t learned id h.ledger c.requires.learned_from h.sound.trail_vars c.next_id-id.ensures few in
     let L : List LratStep → Type 0 = λ steps. IsLedger formula steps in
-    let S : List LratStep → Type 0 = λ steps. IsSound formula.vars (live formula steps) (earlier formula steps) c.attach.new.proof_ids.items c.attach.new.book c.attach.new.trail in
+    let S : List LratStep → Type 0 = λ steps. IsSound formula.vars (live formula steps) (earlier formula steps) c.attach.new.premises.proof_ids.items c.attach.new.premises.book c.attach.new.premises.trail in
     record {
       few_clauses = h.few_clauses;
       few_steps = (let size = ap length steps_are in omega (arith, length_push search.steps (Add id learned.lits learned.hints), c.requires.room));
@@ -64,32 +64,32 @@ pub returns-clause-ready : goal.returns-clause-ready
 returns-clause-ready c =
     let search = c.args.search.now in
     let learned = c.args.learned in
-    let b = search.book in
-    let t = search.trail in
+    let b = search.premises.book in
+    let t = search.premises.trail in
     let id = c.next_id-id.result in
     let level = c.level_after-level.result in
     let le : level ≤ learned.backjump_level = omega (arith, c.level_after-level.ensures, c.backjump_level.ensures) in
     let h = c.requires.learned_from.is_learned in
     let below = h.backjump_below in
     let lemma_is = c.in_ok-lemma.ensures ∙ c.lits.ensures in
-    let P : List ℤ → Type 0 = λ ls. Attaches ls id b c.back_to.new.self search.proof_ids.items c.attach.new.book c.attach.new.trail c.attach.new.proof_ids.items in
-    let Q : TrailState → Type 0 = λ x. Attaches learned.lits id b x search.proof_ids.items c.attach.new.book c.attach.new.trail c.attach.new.proof_ids.items in
+    let P : List ℤ → Type 0 = λ ls. Attaches ls id b c.back_to.new.self search.premises.proof_ids.items c.attach.new.premises.book c.attach.new.premises.trail c.attach.new.premises.proof_ids.items in
+    let Q : TrailState → Type 0 = λ x. Attaches learned.lits id b x search.premises.proof_ids.items c.attach.new.premises.book c.attach.new.premises.trail c.attach.new.premises.proof_ids.items in
     let attached = subst Q c.back_to.ensures (subst P lemma_is c.in_ok-attach.ensures) in
     let T : TrailState → Type 0 = λ x. IsTrail x in
-    let backjump_level = subst T c.back_to.ensures c.len.ensures.well_formed in
-    ready_held b c.attach.new.book (back_at level t) c.attach.new.trail search.proof_ids.items c.attach.new.proof_ids.items id learned.lits
-    (ready_back b t level c.requires.ready c.vars.ensures.well_formed (omega arith)) backjump_level (learned_root t learned level h le) (learned_open t learned level h le) attached
+    let backjump_level = subst T c.back_to.ensures c.is_well_formed-2.ensures in
+    ready_held b c.attach.new.premises.book (back_at level t) c.attach.new.premises.trail search.premises.proof_ids.items c.attach.new.premises.proof_ids.items id learned.lits
+    (ready_back b t level c.requires.ready c.is_well_formed.ensures (omega arith)) backjump_level (learned_root t learned level h le) (learned_open t learned level h le) attached
 
 pub returns-clause-passed : goal.returns-clause-passed
 returns-clause-passed c =
-    let P : Option ℕ → Type 0 = λ from. IsPassed c.bring_to_front.new.queue c.attach.new.trail.assignments from in
-    subst P (sym c.first-search.ensures) (first_passed c.bring_to_front.new.queue c.attach.new.trail.assignments)
+    let P : Option ℕ → Type 0 = λ from. IsPassed c.bring_to_front.new.queue c.attach.new.premises.trail.assignments from in
+    subst P (sym c.first-search.ensures) (first_passed c.bring_to_front.new.queue c.attach.new.premises.trail.assignments)
 
 pub returns-clause-roots : goal.returns-clause-roots
 returns-clause-roots c =
     let search = c.args.search.now in
-    let proof_ids = search.proof_ids.items in
+    let proof_ids = search.premises.proof_ids.items in
     let id = c.next_id-id.result in
     let level = c.level_after-level.result in
-    let P : TrailState → Type 0 = λ x. Attaches c.in_ok-lemma.lemma id search.book x proof_ids c.attach.new.book c.attach.new.trail c.attach.new.proof_ids.items in
-    roots_kept c.in_ok-lemma.lemma level id search.book c.attach.new.book search.trail c.attach.new.trail proof_ids c.attach.new.proof_ids.items (subst P c.back_to.ensures c.in_ok-attach.ensures)
+    let P : TrailState → Type 0 = λ x. Attaches c.in_ok-lemma.lemma id search.premises.book x proof_ids c.attach.new.premises.book c.attach.new.premises.trail c.attach.new.premises.proof_ids.items in
+    roots_kept c.in_ok-lemma.lemma level id search.premises.book c.attach.new.premises.book search.premises.trail c.attach.new.premises.trail proof_ids c.attach.new.premises.proof_ids.items (subst P c.back_to.ensures c.in_ok-attach.ensures)

@@ -1,5 +1,5 @@
 use Rattle.std.proofs.Common.{◌≡◌, length}
 use Rattle.sat_solver.proofs.backjump.bring_to_front.Given as goal
 
-abbrev pub invariant-loop-place : goal.invariant-loop-place
-invariant-loop-place l = length l.queue ≡ length l.initial.queue
+abbrev pub invariant-loop-index : goal.invariant-loop-index
+invariant-loop-index l = length l.queue ≡ length l.initial.queue

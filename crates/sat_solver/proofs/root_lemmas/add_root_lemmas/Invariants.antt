@@ -9,6 +9,6 @@ abbrev pub invariant-loop-place : goal.invariant-loop-place
 invariant-loop-place l = record {
   state : IsSearchState l.formula l.lemmas l.search;
   more : length l.initial.search.steps ≤ length l.search.steps;
-  stays : marks l.search.trail.assignments ≡ marks l.initial.search.trail.assignments;
-  at_root : All (λ place. place < length (upto 0 l.initial.search.trail.assignments)) l.place-iterator.iter.rest.now;
+  stays : marks l.search.premises.trail.assignments ≡ marks l.initial.search.premises.trail.assignments;
+  at_root : All (λ place. place < length (upto 0 l.initial.search.premises.trail.assignments)) l.place-iterator.iter.rest.now;
 }

@@ -20,15 +20,15 @@ returns-clause-state c formula lemmas t =
         few_clauses = s.few_clauses;
         few_steps = s.few_steps;
         ledger = s.ledger;
-        sound = sound_propagated formula.vars (live formula search.steps) (earlier formula search.steps) search.proof_ids.items search.book book search.trail trail s.sound e.book e.by_units;
+        sound = sound_propagated formula.vars (live formula search.steps) (earlier formula search.steps) search.premises.proof_ids.items search.premises.book book search.premises.trail trail s.sound e.book e.by_units;
         queue_vars = s.queue_vars;
         phases_vars = s.phases_vars;
         analyzer_vars = s.analyzer_vars;
         considered_vars = s.considered_vars;
         few_conflicts = s.few_conflicts;
       };
-      ready = subst R (sym e.book) (ready_after search.book search.trail trail c.requires e.by_units e.marked);
-      passed = passed_propagated search.queue search.from search.book.clauses search.trail trail t.passed e.by_units;
+      ready = subst R (sym e.book) (ready_after search.premises.book search.premises.trail trail c.requires e.by_units e.marked);
+      passed = passed_propagated search.queue search.from search.premises.book.clauses search.premises.trail trail t.passed e.by_units;
       within = t.within;
       few = t.few;
     }
@@ -42,7 +42,7 @@ returns-clause-settled c is =
     let R : BookState → Type 0 = λ b. IsReady b trail in
     let A : BookState → Type 0 = λ b. ScanIs b.clauses (lits trail.assignments) c.propagate-scan.result in
     settled_quiet book trail c.propagate-scan.result
-    (subst R (sym e.book) (ready_after search.book search.trail trail c.requires e.by_units e.marked))
-    c.len.ensures.well_formed
+    (subst R (sym e.book) (ready_after search.premises.book search.premises.trail trail c.requires e.by_units e.marked))
+    c.is_well_formed-2.ensures
     (subst A (sym e.book) e.answer)
     is
