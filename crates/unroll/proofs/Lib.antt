@@ -1,0 +1,13 @@
+pub mod CertMeaning
+pub mod ClauseCount
+pub mod FrameMeaning
+pub mod GoalMeaning
+pub mod Growth
+pub mod Room
+pub mod Rows
+pub mod RunMeaning
+pub mod SearchMeaning
+pub mod State
+pub mod Truth
+pub mod UndefinedVars
+pub mod Within
