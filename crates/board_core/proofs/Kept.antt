@@ -1,14 +1,12 @@
 -- Every event keeps a core good.
-use Rattle.std.proofs.Common.{◌≡◌, ℕ, List, [], ◌∷◌, ◌++◌, sym, ap, subst, ◌∙◌, All, Contains}
-use Rattle.std.specs.Prelude.{slice_get}
-use Rattle.std.specs.List.{AllByRecursion}
+use Rattle.std.proofs.Common.{ℕ, List, [], ◌∷◌, sym, subst, All, Contains}
 use Rattle.std.proofs.lemmas.Option.{slice_get_within, get_or_from_slice_get}
 use Rattle.std.proofs.lemmas.List.Elements.{All-push, All-nil}
 use Rattle.board_core.specs.declared.entry.Entry.{Entry}
 use Rattle.board_core.specs.declared.event.Event.{Event}
 use Rattle.board_core.specs.declared.event.Event.TheVariants as events
-use Rattle.board_core.specs.Core.{Core, Needs, After, IsStep, next_entry, numbered, marked, looked, split, joined}
-use Rattle.board_core.specs.Good.{IsEntry, IsSound, Fact, fact_of, Agree, Good, IsFact, InitialIsGood, StaysGood, Leads, StaysGoodAlong, KindsAgree}
+use Rattle.board_core.specs.Core.{Core, Needs, After, next_entry}
+use Rattle.board_core.specs.Good.{IsEntry, IsSound, Fact, fact_of, Good, IsFact, InitialIsGood, StaysGood, StaysGoodAlong, KindsAgree}
 use Rattle.board_core.proofs.KeptNumber.{number-sound}
 use Rattle.board_core.proofs.KeptMark.{mark-sound}
 use Rattle.board_core.proofs.KeptLook.{look-sound}

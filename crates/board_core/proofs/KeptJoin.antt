@@ -1,6 +1,6 @@
 -- A join keeps a core sound.
-use Rattle.std.proofs.Common.{◌≡◌, ◌≢◌, ℕ, ◌+◌, ◌<◌, ◌≤◌, List, [], ◌∷◌, ◌++◌, length, set, get_or, refl, sym, ap, subst, ◌∙◌, arith, Some, None, inl, inr, Option, Contains}
-use Rattle.std.specs.Prelude.{slice_get, ◌⊎◌, max, cond, nat_eq, count_by}
+use Rattle.std.proofs.Common.{◌≡◌, ◌≢◌, ℕ, ◌+◌, List, length, set, refl, sym, ap, ◌∙◌, arith, Some, None, inl, inr, Option}
+use Rattle.std.specs.Prelude.{slice_get, cond, nat_eq}
 use Rattle.std.proofs.lemmas.Bool.{cases_eq}
 use Rattle.std.proofs.lemmas.Option.{same_Some, slice_get_within, none-some}
 use Rattle.std.proofs.lemmas.List.{length-set}
@@ -9,8 +9,8 @@ use Rattle.std.proofs.lemmas.List.Sums.{sum_by-append}
 use Rattle.board_core.specs.declared.entry.Entry.{Entry}
 use Rattle.board_core.specs.declared.view.GoalMark.{GoalMark}
 use Rattle.board_core.specs.declared.view.View.{View}
-use Rattle.board_core.specs.Core.{Core, HasView, CanJoin, with_all, joined}
-use Rattle.board_core.specs.Good.{IsEntry, IsMarked, IsPosted, IsNamed, Knows, IsSound, times}
+use Rattle.board_core.specs.Core.{Core, CanJoin, with_all, joined}
+use Rattle.board_core.specs.Good.{Knows, IsSound, times}
 use Rattle.board_core.proofs.Places.{get-set_same, get-set_other}
 use Rattle.board_core.proofs.Views.{all_know-set, spent-set, in_view, times-set}
 

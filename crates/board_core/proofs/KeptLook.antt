@@ -1,14 +1,14 @@
 -- A look keeps a core sound.
-use Rattle.std.proofs.Common.{◌≡◌, ◌≢◌, ℕ, ◌+◌, ◌<◌, ◌≤◌, List, [], ◌∷◌, ◌++◌, length, set, get_or, refl, sym, ap, subst, ◌∙◌, arith, Some, None, inl, inr, Option, Contains}
-use Rattle.std.specs.Prelude.{slice_get, ◌⊎◌, max}
+use Rattle.std.proofs.Common.{◌≡◌, ℕ, ◌<◌, List, length, set, refl, ap, subst, ◌∙◌, arith, Some, None, inl, inr, Option}
+use Rattle.std.specs.Prelude.{slice_get}
 use Rattle.std.proofs.lemmas.Option.{slice_get_within, slice_get-get_or}
 use Rattle.std.proofs.lemmas.List.{length-set}
 use Rattle.std.proofs.lemmas.List.Elements.{Contains-push_cases}
 use Rattle.board_core.specs.declared.entry.Entry.{Entry}
 use Rattle.board_core.specs.declared.view.GoalMark.{GoalMark}
 use Rattle.board_core.specs.declared.view.View.{View}
-use Rattle.board_core.specs.Core.{Core, HasView, CanLook, mark_of, with_look, looked}
-use Rattle.board_core.specs.Good.{IsEntry, IsMarked, IsPosted, IsNamed, Knows, IsSound, entries_of, times}
+use Rattle.board_core.specs.Core.{Core, CanLook, mark_of, with_look, looked}
+use Rattle.board_core.specs.Good.{IsMarked, Knows, IsSound, times}
 use Rattle.board_core.proofs.Views.{all_know-set, spent-set, in_view, times-set}
 
 knows-look : (history : List Entry) (marks : List (Option GoalMark)) (k g : ℕ) (v : View) (found : Option GoalMark) → ((m : GoalMark) → found ≡ Some m → IsMarked marks g × (m.number < length history))

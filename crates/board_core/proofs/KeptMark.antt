@@ -1,17 +1,17 @@
 -- A mark keeps a core sound.
-use Rattle.std.proofs.Common.{◌≡◌, ◌≢◌, ℕ, ◌+◌, ◌<◌, ◌≤◌, cond, List, [], ◌∷◌, ◌++◌, length, set, get_or, refl, sym, ap, subst, ◌∙◌, arith, Some, None, inl, inr, Option, Contains}
-use Rattle.std.specs.Prelude.{slice_get, ◌⊎◌, nat_lt}
+use Rattle.std.proofs.Common.{◌≡◌, ℕ, ◌<◌, List, length, set, refl, sym, ap, subst, ◌∙◌, arith, Some, None, inl, inr, Option}
+use Rattle.std.specs.Prelude.{slice_get}
 use Rattle.std.proofs.lemmas.Bool.{cases_eq}
-use Rattle.std.proofs.lemmas.Option.{same_Some, slice_get_within, slice_get-get_or, none-some}
+use Rattle.std.proofs.lemmas.Option.{same_Some, slice_get-get_or, none-some}
 use Rattle.std.proofs.lemmas.List.{length-set}
 use Rattle.std.proofs.lemmas.List.Elements.{Contains-push_cases}
 use Rattle.board_core.specs.declared.entry.Entry.{Entry}
 use Rattle.board_core.specs.declared.view.GoalMark.{GoalMark}
 use Rattle.board_core.specs.declared.view.View.{View}
-use Rattle.board_core.specs.Core.{Core, HasView, CanMark, mark_of, mark_by, first_mark, with_mark, marked}
-use Rattle.board_core.specs.Good.{IsEntry, IsMarked, IsPosted, IsNamed, Knows, IsSound, times}
+use Rattle.board_core.specs.Core.{Core, CanMark, mark_of, mark_by, first_mark, with_mark, marked}
+use Rattle.board_core.specs.Good.{IsEntry, IsMarked, IsNamed, Knows, IsSound, times}
 use Rattle.board_core.proofs.Places.{get-set_same, get-set_other}
-use Rattle.board_core.proofs.Views.{all_know-set, spent-set, in_view, times-set, knows-more_marks}
+use Rattle.board_core.proofs.Views.{all_know-set, spent-set, times-set, knows-more_marks}
 
 -- a goal that is marked stays marked
 marks-grow : (marks : List (Option GoalMark)) (g : ℕ) (m : GoalMark) → g < length marks → (i : ℕ) → IsMarked marks i → IsMarked (set marks g (Some m)) i

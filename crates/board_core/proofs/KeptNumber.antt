@@ -1,6 +1,6 @@
 -- A new entry keeps a core sound.
-use Rattle.std.proofs.Common.{◌≡◌, ◌≢◌, ℕ, ◌+◌, ◌<◌, ◌≤◌, Bool, true, false, cond, List, [], ◌∷◌, ◌++◌, length, set, get_or, refl, sym, ap, subst, ◌∙◌, arith, Some, None, inl, inr, Option, Contains, All}
-use Rattle.std.specs.Prelude.{slice_get, ◌⊎◌, nat_eq, nat_lt, count_by}
+use Rattle.std.proofs.Common.{◌≡◌, ◌≢◌, ℕ, ◌+◌, true, false, cond, List, [], ◌∷◌, ◌++◌, length, set, refl, sym, ap, subst, ◌∙◌, arith, Some, None, inl, inr, Option, Contains}
+use Rattle.std.specs.Prelude.{slice_get, ◌⊎◌, nat_eq, nat_lt}
 use Rattle.std.proofs.lemmas.Bool.{cases_eq}
 use Rattle.std.proofs.lemmas.Bool.Decides.{nat_tests}
 use Rattle.std.proofs.lemmas.Option.{same_Some, slice_get_within, none-some}
@@ -12,8 +12,8 @@ use Rattle.board_core.specs.declared.entry.Entry.{Entry}
 use Rattle.board_core.specs.declared.entry.Source.{Source}
 use Rattle.board_core.specs.declared.view.GoalMark.{GoalMark}
 use Rattle.board_core.specs.declared.view.View.{View}
-use Rattle.board_core.specs.Core.{Core, HasView, CanNumber, next_entry, with_entry, numbered}
-use Rattle.board_core.specs.Good.{IsEntry, IsMarked, IsPosted, IsNamed, Knows, IsSound, times}
+use Rattle.board_core.specs.Core.{Core, CanNumber, next_entry, with_entry, numbered}
+use Rattle.board_core.specs.Good.{IsEntry, IsPosted, Knows, IsSound, times}
 use Rattle.board_core.proofs.Places.{get-push_old, get-push_new, get-push_cases}
 use Rattle.board_core.proofs.Views.{all_know-set, spent-set, in_view, times-set}
 

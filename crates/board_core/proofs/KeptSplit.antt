@@ -1,6 +1,6 @@
 -- A new caller keeps a core sound, and a core in which nothing has happened is sound.
-use Rattle.std.proofs.Common.{◌≡◌, ◌≢◌, ℕ, zero, suc, ◌+◌, ◌*◌, ◌<◌, ◌≤◌, cond, List, [], ◌∷◌, ◌++◌, length, get_or, replicate, refl, sym, ap, subst, ◌∙◌, arith, Some, None, inl, inr, Option, Contains}
-use Rattle.std.specs.Prelude.{slice_get, ◌⊎◌, nat_lt}
+use Rattle.std.proofs.Common.{◌≡◌, ◌≢◌, ℕ, ◌+◌, ◌*◌, ◌<◌, ◌≤◌, cond, List, [], ◌∷◌, ◌++◌, length, replicate, refl, sym, subst, ◌∙◌, arith, Some, None, inl, inr, Option}
+use Rattle.std.specs.Prelude.{slice_get, nat_lt}
 use Rattle.std.proofs.lemmas.Bool.Decides.{nat_tests}
 use Rattle.std.proofs.lemmas.Option.{same_Some, slice_get_within, get_or_from_slice_get, none-some}
 use Rattle.std.proofs.lemmas.List.{length_push, length-replicate, get_or-replicate}
@@ -9,8 +9,8 @@ use Rattle.std.proofs.lemmas.List.Sums.{sum_by-append}
 use Rattle.board_core.specs.declared.entry.Entry.{Entry}
 use Rattle.board_core.specs.declared.view.GoalMark.{GoalMark}
 use Rattle.board_core.specs.declared.view.View.{View}
-use Rattle.board_core.specs.Core.{Core, HasView, CanSplit, fresh_view, initial_core, split}
-use Rattle.board_core.specs.Good.{IsEntry, IsMarked, IsPosted, IsNamed, Knows, IsSound, times}
+use Rattle.board_core.specs.Core.{Core, CanSplit, fresh_view, initial_core, split}
+use Rattle.board_core.specs.Good.{IsEntry, Knows, IsSound, times}
 use Rattle.board_core.proofs.Places.{get-push_cases}
 use Rattle.board_core.proofs.Views.{in_view}
 

@@ -1,8 +1,11 @@
+pub mod FirstFaults
 pub mod Kept
 pub mod KeptJoin
 pub mod KeptLook
 pub mod KeptMark
 pub mod KeptNumber
 pub mod KeptSplit
+pub mod Parts
 pub mod Places
+pub mod Replayed
 pub mod Views

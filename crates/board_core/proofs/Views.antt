@@ -1,13 +1,13 @@
 -- The views of a core after one of them has changed.
-use Rattle.std.proofs.Common.{◌≡◌, ◌≢◌, ℕ, ◌+◌, ◌<◌, ◌≤◌, List, [], ◌∷◌, ◌++◌, length, set, get_or, refl, sym, ap, subst, ◌∙◌, arith, Some, None, inl, inr, Option, Contains}
-use Rattle.std.specs.Prelude.{slice_get, ◌⊎◌, sum_by, count_by, nat_eq}
+use Rattle.std.proofs.Common.{◌≡◌, ◌≢◌, ℕ, ◌+◌, List, set, get_or, sym, ap, subst, ◌∙◌, Some, None, inl, inr, Option}
+use Rattle.std.specs.Prelude.{slice_get, count_by, nat_eq}
 use Rattle.std.proofs.lemmas.Bool.{cases_eq}
 use Rattle.std.proofs.lemmas.Option.{same_Some, slice_get_within, get_or_from_slice_get, none-some}
 use Rattle.std.proofs.lemmas.List.Sums.{sum_by-set}
 use Rattle.board_core.specs.declared.entry.Entry.{Entry}
 use Rattle.board_core.specs.declared.view.GoalMark.{GoalMark}
 use Rattle.board_core.specs.declared.view.View.{View}
-use Rattle.board_core.specs.Good.{IsEntry, IsMarked, Knows, entries_of, times}
+use Rattle.board_core.specs.Good.{IsMarked, Knows, entries_of, times}
 use Rattle.board_core.proofs.Places.{get-set_same, get-set_other}
 
 -- each live view holds what its caller knows

@@ -5,7 +5,6 @@ use Rattle.aig_model.specs.declared.parts.Kind.TheVariants as kinds
 use Rattle.board_core.specs.declared.entry.Entry.{Entry}
 use Rattle.board_core.specs.declared.entry.Source.{Source}
 use Rattle.board_core.specs.declared.view.GoalMark.{GoalMark}
-use Rattle.board_core.specs.declared.view.Looked.{Looked}
 use Rattle.board_core.specs.declared.view.View.{View}
 use Rattle.board_core.specs.declared.event.Event.{Event}
 use Rattle.board_core.specs.declared.event.Event.TheVariants as events

@@ -35,7 +35,7 @@ pub record IsLegalEntry (o : Options) (goals k : ℕ) (e : Entry) : Type 0 where
   pub kind : e.kind ≡ kind_of e.source
 
 -- no caller posts twice for a goal, and the entries of a goal agree
-pub record IsLegal (o : Options) (goals : ℕ) (es : List Entry) : Type 0 where
+pub record IsLegalHistory (o : Options) (goals : ℕ) (es : List Entry) : Type 0 where
   pub entries : (k : ℕ) (e : Entry) → slice_get es k ≡ Some e → IsLegalEntry o goals k e
   pub once : AllPairs (λ (e f : Entry). (e.caller ≢ f.caller) ⊎ (e.goal ≢ f.goal)) es
   pub kinds : AllPairs (λ (e f : Entry). e.goal ≡ f.goal → e.kind ≡ f.kind) es

@@ -1,3 +1,5 @@
 pub mod Core
+pub mod Faults
 pub mod Good
 pub mod History
+pub mod Posts

@@ -1,13 +1,32 @@
 //! What happens on a board, one atomic step at a time.
 
+ghost use Rattle.std.specs.Prelude.{◌≡◌};
+ghost use Rattle.board_core.specs.Faults.{first_verdict};
+
 use crate::entry::Source;
 use aig_model::Kind;
+use ketch_base::Sequence;
 
 /// What a look tells of a goal.
 #[derive(Clone, Copy, Debug, PartialEq, Eq)]
 pub enum Verdict {
     Pending,
     Settled(Kind),
+}
+
+/// One verdict a goal.
+pub type Verdicts = Sequence<Verdict>;
+
+impl Verdict {
+    /// The verdict after an entry of this kind.
+    pub(crate) fn or(self, kind: Kind) -> Verdict
+        ensures { result ≡ first_verdict self kind }
+    {
+        match self {
+            Verdict::Pending => Verdict::Settled(kind),
+            Verdict::Settled(first) => Verdict::Settled(first),
+        }
+    }
 }
 
 /// One step of a caller.
