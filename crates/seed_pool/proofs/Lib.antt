@@ -1,0 +1,5 @@
+pub mod Sums
+pub mod Steps
+pub mod Misses
+pub mod Ends
+pub mod NewSeats
