@@ -17,9 +17,10 @@ noted_more files notes place given file here =
     ∙ sym (ap (λ (name : Option (List ℕ)). with_open (noted_files notes) name given) (ap (option_map (λ (f : FileText). f.name.items)) here))
 
 -- a desk with other calls, and at the start of another file
-pub same_desk : (d : DeskInMemory) (c k : Numbered) (s t l m : Option (List ℕ)) → c ≡ k → s ≡ t → l ≡ m
-    → record d { calls = c; started = s; left = l; given = 0 } ≡ record d { calls = k; started = t; left = m; given = 0 }
-same_desk d c k s t l m calls started left =
-    ap (λ (x : Numbered). record d { calls = x; started = s; left = l; given = 0 }) calls
-    ∙ (ap (λ (x : Option (List ℕ)). record d { calls = k; started = x; left = l; given = 0 }) started
-    ∙ ap (λ (x : Option (List ℕ)). record d { calls = k; started = t; left = x; given = 0 }) left)
+pub same_desk : (d : DeskInMemory) (c k : Numbered) (s t w v l m : Option (List ℕ)) → c ≡ k → s ≡ t → w ≡ v → l ≡ m
+    → record d { calls = c; started = s; whole = w; left = l; given = 0 } ≡ record d { calls = k; started = t; whole = v; left = m; given = 0 }
+same_desk d c k s t w v l m calls started whole left =
+    ap (λ (x : Numbered). record d { calls = x; started = s; whole = w; left = l; given = 0 }) calls
+    ∙ (ap (λ (x : Option (List ℕ)). record d { calls = k; started = x; whole = w; left = l; given = 0 }) started
+    ∙ (ap (λ (x : Option (List ℕ)). record d { calls = k; started = t; whole = x; left = l; given = 0 }) whole
+    ∙ ap (λ (x : Option (List ℕ)). record d { calls = k; started = t; whole = v; left = x; given = 0 }) left))

@@ -33,5 +33,6 @@ pub record DeskInMemory : Type 0 where
   pub faults : ℕ
   pub earlier : List FileGiven
   pub started : Option (List ℕ)
+  pub whole : Option (List ℕ)
   pub left : Option (List ℕ)
   pub given : ℕ

@@ -1,5 +1,5 @@
 -- What a sink shows, and what a call may do to it.
-use Rattle.std.specs.Prelude.{ℕ, ◌≡◌, ◌≤◌, List, ◌++◌, length, take, IfSome, Some}
+use Rattle.std.specs.Prelude.{ℕ, ◌≡◌, ◌<◌, ◌≤◌, List, ◌++◌, length, take, IfSome, Some}
 use Rattle.std.specs.declared.option.Option.{Option}
 
 -- the bytes taken so far, where they are told; how many writes failed; and how many took nothing of a piece that isn't empty
@@ -21,7 +21,18 @@ pub record Takes (before now : Option (List ℕ)) (piece : List ℕ) (count : �
   pub fits : count ≤ length piece
   pub grew : Grew before now (take count piece)
 
+-- nothing was taken of a piece that isn't empty
+pub record IsIdle (count : ℕ) (piece : List ℕ) : Type 0 where
+  pub nothing : count ≡ 0
+  pub some : 0 < length piece
+
 -- the sink took bytes from the front of these
 pub record GrewByPrefix (before now : Option (List ℕ)) (bytes : List ℕ) : Type 0 where
   pub count : ℕ
   pub takes : Takes before now bytes count
+
+-- the sink took bytes from the front of these, and not all
+pub record GrewByPart (before now : Option (List ℕ)) (bytes : List ℕ) : Type 0 where
+  pub count : ℕ
+  pub takes : Takes before now bytes count
+  pub less : count < length bytes

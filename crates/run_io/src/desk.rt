@@ -31,6 +31,7 @@ pub trait Desk {
 
         ensures text { HasSameTexts (state self.old) (state self.new) }
         ensures started { (state self.new).started ≡ (state self.old).started }
+        ensures whole { (state self.new).whole ≡ (state self.old).whole }
         ensures earlier { (state self.new).earlier ≡ (state self.old).earlier }
         ensures counts { CountsFaults (state self.old) (state self.new) }
 

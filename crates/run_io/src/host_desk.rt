@@ -9,6 +9,7 @@ use std::fs::File;
 use std::io::Read;
 use std::marker::Model;
 use std::rt::Files;
+use std::snapshot::Snapshot;
 
 /// Real files. One count of faults stands for every name.
 ///
@@ -17,6 +18,8 @@ use std::rt::Files;
 pub struct HostDesk<'r, R: Files> {
     files: &'r R,
     file: Option<R::File>,
+    /// The file as it was when it was opened. Takes no memory: contracts alone see it.
+    opened: Option<Snapshot<R::File>>,
     name: Name,
     given: u64,
     /// Takes no memory: contracts alone see it.
@@ -34,6 +37,7 @@ impl<'r, R: Files> Model for HostDesk<'r, R> {
     ghost view = { λ desk. record {
       earlier = desk.earlier.items;
       started = if is_some desk.file then Some desk.name else None;
+      whole = option_and_then (λ opened. R.File.remaining opened.value) desk.opened;
       left = option_and_then R.File.remaining desk.file;
       given = desk.given;
       faults = desk.faults;
@@ -42,11 +46,12 @@ impl<'r, R: Files> Model for HostDesk<'r, R> {
 
 impl<'r, R: Files> HostDesk<'r, R> {
     pub fn new(files: &'r R) -> HostDesk<'r, R>
-        ensures { result ≡ record { earlier = []; started = None; left = None; given = 0; faults = 0 } }
+        ensures { result ≡ record { earlier = []; started = None; whole = None; left = None; given = 0; faults = 0 } }
     {
         HostDesk {
             files,
             file: None,
+            opened: None,
             name: Name::new(),
             given: 0,
             earlier: Log::new(),
@@ -62,6 +67,7 @@ impl<'r, R: Files> Desk for HostDesk<'r, R> {
       text = λ _. None;
       earlier = desk.earlier;
       started = desk.started;
+      whole = desk.whole;
       left = desk.left;
       given = desk.given;
       faults = λ _. desk.faults;
@@ -75,6 +81,7 @@ impl<'r, R: Files> Desk for HostDesk<'r, R> {
         if self.file.is_some() {
             self.earlier = self.earlier.and(&self.name, &self.given);
         }
+        self.opened = Some(Snapshot::of(&file));
         self.file = Some(file);
         self.name.set(name);
         self.given = 0;

@@ -41,6 +41,7 @@ impl Model for MemoryDesk {
       faults = desk.faults;
       earlier = noted_files desk.earlier.items;
       started = option_and_then (name_at desk.files.items) desk.place;
+      whole = option_and_then (text_at desk.files.items) desk.place;
       left = option_map (drop desk.given) (option_and_then (text_at desk.files.items) desk.place);
       given = desk.given;
     } };
@@ -93,6 +94,7 @@ impl Desk for MemoryDesk {
       text = text_of desk.files;
       earlier = desk.earlier;
       started = desk.started;
+      whole = desk.whole;
       left = desk.left;
       given = desk.given;
       faults = λ _. desk.faults;
@@ -107,6 +109,7 @@ impl Desk for MemoryDesk {
           calls = after_call self.old.calls;
           earlier = with_open self.old.earlier self.old.started self.old.given;
           started = Some name.now;
+          whole = text_of self.old.files name.now;
           left = text_of self.old.files name.now;
           given = 0;
         }) }
@@ -136,6 +139,7 @@ impl Desk for MemoryDesk {
         ensures counts { CountsOn self.old.faults self.new.faults }
         ensures files { self.new.files ≡ self.old.files }
         ensures started { self.new.started ≡ self.old.started }
+        ensures whole { self.new.whole ≡ self.old.whole }
         ensures earlier { self.new.earlier ≡ self.old.earlier }
         ensures calls { self.new.calls ≡ after_call self.old.calls }
         ensures no_fault { OnOk result (self.new.faults ≡ self.old.faults) }

@@ -3,6 +3,7 @@
 ghost use Rattle.std.specs.Prelude.{◌≡◌, ℕ, ◌-◌, ◌<◌, ◌↔◌, [], ◌++◌, length, min, take, Some, Contains, IsErr, IfOk, OnOk, OnErr};
 ghost use Rattle.run_io.specs.Count.{Rose, CountsOn, next_count};
 ghost use Rattle.run_io.specs.Numbered.{NextFails, after_call};
+ghost use Rattle.run_io.specs.Sink.{IsIdle};
 
 use crate::desk::Failed;
 use crate::numbered::NumberedCalls;
@@ -95,11 +96,13 @@ impl Sink for MemorySink {
         ensures full { IfOk result (λ count. count ≡
             min (length piece.now) (min self.old.most (self.old.room - length self.old.taken))) }
         ensures ok { IfOk result (λ count. self.new.taken ≡ self.old.taken ++ take count piece.now) }
-        ensures nothing { IfOk result (λ count. count ≡ 0 → 0 < length piece.now →
+        ensures nothing { IfOk result (λ count. IsIdle count piece.now →
             Rose self.old.idle self.new.idle) }
+        ensures not_idle { IfOk result (λ count. ¬ IsIdle count piece.now → self.new.idle ≡ self.old.idle) }
         ensures no_fault { OnOk result (self.new.faults ≡ self.old.faults) }
         ensures failed { OnErr result (self.new.faults ≡ next_count self.old.faults) }
         ensures kept { OnErr result (self.new.taken ≡ self.old.taken) }
+        ensures failed_not_idle { OnErr result (self.new.idle ≡ self.old.idle) }
     {
         if self.writes.next_fails() {
             self.faults = self.faults.saturating_add(1);

@@ -2,7 +2,7 @@
 
 ghost use Rattle.std.specs.Prelude.{◌≡◌, ℕ, ◌+◌, ◌<◌, ◌≤◌, ◌^◌, ◌↔◌, ◌⊎◌, List, length, Some, IsSome, OnOk, IfOk, IfSome, IsErrOf};
 ghost use Rattle.run_io.specs.Count.{Rose};
-ghost use Rattle.run_io.specs.Desk.{HasSameTexts, HasSameFaults, CountsFaults, IsOpen, IsPast, IsKept};
+ghost use Rattle.run_io.specs.Desk.{HasSameTexts, HasSameFaults, CountsFaults, IsAtEnd, IsOpen, IsPast, IsKept};
 
 use crate::desk::{Desk, Failed};
 use ketch_base::OutOfMemory;
@@ -57,7 +57,9 @@ pub fn read_file<D: Desk>(
     ensures text { HasSameTexts (D.state desk.old) (D.state desk.new) }
     ensures counts { CountsFaults (D.state desk.old) (D.state desk.new) }
 
-    ensures whole { IfOk result (λ bytes. IfSome ((D.state desk.old).text name.now) (λ text. bytes.items ≡ text)) }
+    ensures told { IfOk result (λ bytes. IfSome ((D.state desk.old).text name.now) (λ text. bytes.items ≡ text)) }
+    ensures whole { IfOk result (λ bytes. IfSome (D.state desk.new).whole (λ all. bytes.items ≡ all)) }
+    ensures end { OnOk result (IsAtEnd (D.state desk.new).left) }
     ensures within { IfOk result (λ bytes. length bytes.items ≤ limit) }
     ensures counted { IfOk result (λ bytes. (D.state desk.new).given ≡ length bytes.items) }
     ensures opened { OnOk result (IsOpen (D.state desk.old) (D.state desk.new) name.now) }
@@ -97,10 +99,12 @@ fn read_rest<D: Desk>(alloc: Global, desk: &mut D, limit: u64) -> Result<Vec<u8>
     ensures text { HasSameTexts (D.state desk.old) (D.state desk.new) }
     ensures counts { CountsFaults (D.state desk.old) (D.state desk.new) }
     ensures started { (D.state desk.new).started ≡ (D.state desk.old).started }
+    ensures same_whole { (D.state desk.new).whole ≡ (D.state desk.old).whole }
     ensures earlier { (D.state desk.new).earlier ≡ (D.state desk.old).earlier }
     ensures left { IsPast (D.state desk.old).left (D.state desk.new).left (D.state desk.new).given }
 
     ensures whole { IfOk result (λ bytes. IfSome (D.state desk.old).left (λ rest. bytes.items ≡ rest)) }
+    ensures end { OnOk result (IsAtEnd (D.state desk.new).left) }
     ensures within { IfOk result (λ bytes. length bytes.items ≤ limit) }
     ensures counted { IfOk result (λ bytes. (D.state desk.new).given ≡ length bytes.items) }
 

@@ -11,6 +11,7 @@ invariant-pieces g l =
       same_text : HasSameTexts old new;
       same_faults : HasSameFaults old new;
       same_file : new.started ≡ old.started;
+      same_whole : new.whole ≡ old.whole;
       same_earlier : new.earlier ≡ old.earlier;
       within : vec_len l.bytes ≤ l.limit;
       reading : Reading old.left new.left new.given l.bytes.items;

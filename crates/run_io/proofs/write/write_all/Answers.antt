@@ -9,6 +9,6 @@ loop-at-preserved g c =
     let piece : take (length bytes - c.loop-at.at) (drop c.loop-at.at bytes) ≡ drop c.loop-at.at bytes = take_all (length bytes - c.loop-at.at) (drop c.loop-at.at bytes) (omega (arith, length-drop c.loop-at.at bytes)) in
     record {
       same_faults = c.in-Ok.ensures.no_fault ∙ c.loop-at.invariant.same_faults;
-      idle_counts = (omega arith, omega arith);
+      same_idle = c.in-Ok.ensures.not_idle (λ idle. omega (arith, idle.nothing)) ∙ c.loop-at.invariant.same_idle;
       takes = takes_more _ _ _ bytes _ c.loop-at.at c.in-Ok.count c.loop-at.invariant.takes piece c.in-Ok.ensures.ok;
     }

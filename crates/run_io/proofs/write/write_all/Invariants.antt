@@ -1,5 +1,4 @@
 use Rattle.std.proofs.Common.{◌≡◌, ◌-◌, length}
-use Rattle.run_io.specs.Count.{CountsOn}
 use Rattle.run_io.specs.Sink.{Takes}
 use Rattle.run_io.proofs.write.write_all.Given as goal
 
@@ -9,7 +8,7 @@ invariant-loop-at g l =
     let new = g.S.Sink.state l.sink in
     record {
       same_faults : new.faults ≡ old.faults;
-      idle_counts : CountsOn old.idle new.idle;
+      same_idle : new.idle ≡ old.idle;
       takes : Takes old.taken new.taken l.bytes l.at;
     }
 

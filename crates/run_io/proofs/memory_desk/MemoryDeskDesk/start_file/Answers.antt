@@ -32,6 +32,6 @@ returns-clause-ok c =
     let whole = all_left (text_at files c.in-Some.place) (text_of files c.args.name.now) first.1 in
     let kept = c.self-2.view_is ∙ c.note_open.ensures in
     rw (← c.self.view_is) (
-    ap (λ (d : DeskInMemory). record d { started = name_at d.files c.in-Some.place; left = option_map (drop 0) (text_at d.files c.in-Some.place); given = 0 }) kept
+    ap (λ (d : DeskInMemory). record d { started = name_at d.files c.in-Some.place; whole = text_at d.files c.in-Some.place; left = option_map (drop 0) (text_at d.files c.in-Some.place); given = 0 }) kept
     ∙ same_desk (record (the_view c.self.inside) { earlier = with_open (the_view c.self.inside).earlier (the_view c.self.inside).started (the_view c.self.inside).given })
-    _ _ _ _ _ _ c.next_fails.ensures.made first.0 whole)
+    _ _ _ _ _ _ _ _ c.next_fails.ensures.made first.0 first.1 whole)
