@@ -34,16 +34,20 @@ stops_of command call d out stop e cause = cover_stops call d out stop (subst (�
 -- ---- what is asked is too much
 not_too_much : (o : Options) (c : Parts) (m : Measure) → HasRoom o c → IsTooMuch o c m → ⊥
 not_too_much o c measures.Formula room h = h
+not_too_much o c measures.Goals room h = h
 not_too_much o c measures.Frames room h = let fits : frames_of o c ≤ 4000000 = room.frames in omega arith
 not_too_much o c measures.Walk room h = let fits : walk_of o c ≤ 2000000 = room.walk in let past : 2000000 < walk_of o c = h.1 in omega arith
 
 -- the first measure past its limit is one
 one_measure : (o : Options) (c : Parts) (m n : Measure) → IsTooMuch o c m → IsTooMuch o c n → m ≡ n
 one_measure o c measures.Formula n h i = absurd h
+one_measure o c measures.Goals n h i = absurd h
 one_measure o c measures.Frames measures.Formula h i = absurd i
+one_measure o c measures.Frames measures.Goals h i = absurd i
 one_measure o c measures.Frames measures.Frames h i = refl
 one_measure o c measures.Frames measures.Walk h i = absurd (let fits : frames_of o c ≤ 4000000 = i.0 in omega arith)
 one_measure o c measures.Walk measures.Formula h i = absurd i
+one_measure o c measures.Walk measures.Goals h i = absurd i
 one_measure o c measures.Walk measures.Frames h i = absurd (let fits : frames_of o c ≤ 4000000 = h.0 in omega arith)
 one_measure o c measures.Walk measures.Walk h i = refl
 
@@ -83,7 +87,7 @@ covered_by call d out status bytes settled o took e = record {
   settled = settled_means settled status o.is_report.report.unsettled e o.settled_is;
 }
 
-covered : (call : CoverCall) (d : DeskSeen) (out : SinkSeen) (status : Status) (c : Parts) (sig : List ℕ) (bytes : List ℕ) (settled : Bool) → Accepts call d c sig
+covered : (call : CoverCall) (d : DeskSeen) (out : SinkSeen) (status : Status) (c : Parts) (sig : List ℕ) (bytes : List ℕ) (settled : Bool) → Accepts call.subject d c sig
     → IsCoverOutput call d bytes settled → Took out bytes → status ≡ settled_status settled → IsCovered call c sig out status
 covered call d out status c sig bytes settled accepts o took e =
     let same_circuit : o.circuit ≡ c = same_told call.subject d accepts.circuit_text c o.circuit accepts.circuit_told accepts.circuit o.has_circuit in
@@ -99,7 +103,7 @@ headline command d out err status (inl w) call c sig e accepts ended =
 headline command d out err status (inr s) call c sig e accepts ended = absurd (not_ended s.stop status s.status_is ended)
 
 -- ---- completeness
-undisturbed_stop : (call : CoverCall) (d : DeskSeen) (out : SinkSeen) (c : Parts) (sig : List ℕ) (stop : Stop) → Accepts call d c sig → HasRoom call.options c → IsUndisturbed (Cover call) d out
+undisturbed_stop : (call : CoverCall) (d : DeskSeen) (out : SinkSeen) (c : Parts) (sig : List ℕ) (stop : Stop) → Accepts call.subject d c sig → HasRoom call.options c → IsUndisturbed (Cover call) d out
     → CoverStops call d out stop → stop ≡ stops.OutOfMemory
 undisturbed_stop call d out c sig stop a room u (unread r) =
     let told : IsTold d files.Circuit call.subject.circuit a.circuit_text = record { told = a.circuit_told; short = a.circuit_short; no_fault = u.files files.Circuit } in

@@ -1,12 +1,17 @@
+pub mod Behind
 pub mod CoverPromised
+pub mod Exported
 pub mod Filled
 pub mod Formed
 pub mod FrontWord
+pub mod GoalsPromised
 pub mod LratPromised
 pub mod Opening
 pub mod Posted
 pub mod Promised
 pub mod Reading
+pub mod ReplayPromised
+pub mod ReplayRead
 pub mod Stopped
 pub mod SubjectPromised
 pub mod Told

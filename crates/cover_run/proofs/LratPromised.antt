@@ -1,5 +1,5 @@
 -- What the answer of an lrat command promises.
-use Rattle.std.proofs.Common.{◌≡◌, ℕ, ◌<◌, ◌≤◌, Bool, List, length, Some, IfSome, inl, inr, sym, ◌∙◌, ap, subst, arith}
+use Rattle.std.proofs.Common.{◌≡◌, ℕ, ◌<◌, ◌≤◌, Bool, List, length, Some, inl, inr, sym, ◌∙◌, ap, subst, arith}
 use Rattle.std.specs.Prelude.{◌⊎◌}
 use Rattle.std.proofs.lemmas.Option.{none-some}
 use Rattle.cnf_base.specs.Meaning.{CnfFormula}
@@ -24,10 +24,10 @@ use Rattle.cover_run.specs.Answer.{IsOutput, IsAnswer, Cause}
 use Rattle.cover_run.specs.Checking.{formula_stop, IsFormulaText, IsProofText, HasFormulaFault, HasProofFault, HasFormula, HasProof, HasSomeFormula, IsLratOutput}
 use Rattle.cover_run.specs.Files.{limit_of, IsTooLong}
 use Rattle.cover_run.specs.Promises.{IsTold, IsToldTooLong, Spells, IsUndisturbed, IsProved, AcceptedCause, AcceptedComes, BadFormulaComes, BadProofComes, BadStepComes, LongFormulaComes, LongProofComes}
-use Rattle.cover_run.specs.Seen.{DeskSeen, SinkSeen, HasFaulted, Failed, Took}
+use Rattle.cover_run.specs.Seen.{DeskSeen, SinkSeen, HasText, HasFaulted, Failed, Took}
 use Rattle.cover_run.specs.Stops.{status_of, settled_status}
 use Rattle.cover_run.specs.Words.{LratCall, Meaning, Lrat}
-use Rattle.cover_run.proofs.WhereTold.{IfSome-at}
+use Rattle.cover_run.proofs.WhereTold.{text-at}
 use Rattle.cover_run.proofs.Promised.{told_long, not_ended, stopped_so}
 use Rattle.cover_run.proofs.Stopped.{LratStops, formula_unreadable, formula_long, bad_formula, proof_unreadable, proof_long, bad_proof, bad_step, not_accepted_written, no_memory, lrat_stops}
 
@@ -39,18 +39,18 @@ stops_of command call d out stop e cause = lrat_stops call d out stop (subst (λ
 
 -- ---- the texts that are told are the ones meant
 told_formula : (call : LratCall) (d : DeskSeen) (t : List ℕ) (f : CnfFormula) → d.old.text call.formula ≡ Some t → HasFormula call d f → IsFormulaText f t
-told_formula call d t f told has = IfSome-at (IsFormulaText f) (d.old.text call.formula) t told has
+told_formula call d t f told has = text-at d call.formula t (IsFormulaText f) told has
 
 told_proof : (call : LratCall) (d : DeskSeen) (u : List ℕ) (p : List LratStep) → d.old.text call.proof ≡ Some u → HasProof call d p → IsProofText p u
-told_proof call d u p told has = IfSome-at (IsProofText p) (d.old.text call.proof) u told has
+told_proof call d u p told has = text-at d call.proof u (IsProofText p) told has
 
-told_fault : (call : LratCall) (d : DeskSeen) (t : List ℕ) (line : ℕ) (kind : DimacsKind) → d.old.text call.formula ≡ Some t → IfSome (d.old.text call.formula) (HasFormulaFault line kind)
+told_fault : (call : LratCall) (d : DeskSeen) (t : List ℕ) (line : ℕ) (kind : DimacsKind) → d.old.text call.formula ≡ Some t → HasText d call.formula (HasFormulaFault line kind)
     → HasFormulaFault line kind t
-told_fault call d t line kind told has = IfSome-at (HasFormulaFault line kind) (d.old.text call.formula) t told has
+told_fault call d t line kind told has = text-at d call.formula t (HasFormulaFault line kind) told has
 
-told_proof_fault : (call : LratCall) (d : DeskSeen) (u : List ℕ) (line : ℕ) (kind : LratKind) → d.old.text call.proof ≡ Some u → IfSome (d.old.text call.proof) (HasProofFault line kind)
+told_proof_fault : (call : LratCall) (d : DeskSeen) (u : List ℕ) (line : ℕ) (kind : LratKind) → d.old.text call.proof ≡ Some u → HasText d call.proof (HasProofFault line kind)
     → HasProofFault line kind u
-told_proof_fault call d u line kind told has = IfSome-at (HasProofFault line kind) (d.old.text call.proof) u told has
+told_proof_fault call d u line kind told has = text-at d call.proof u (HasProofFault line kind) told has
 
 same_formula : (call : LratCall) (d : DeskSeen) (t : List ℕ) (f g : CnfFormula) → d.old.text call.formula ≡ Some t → SpellsFormula t f → HasFormula call d g → g ≡ f
 same_formula call d t f g told spells has = dimacs_text.one-formula t g f (told_formula call d t g told has).spells spells
@@ -64,7 +64,7 @@ faulty : (call : LratCall) (d : DeskSeen) (t : List ℕ) (line : ℕ) (kind : Di
 faulty call d t line kind told first (f, has) = dimacs_text.not-both t f line kind (told_formula call d t f told has).spells first
 
 same_stop : (call : LratCall) (d : DeskSeen) (t : List ℕ) (m n : ℕ) (k l : DimacsKind) → d.old.text call.formula ≡ Some t → IsFirstInFormula t n l
-    → IfSome (d.old.text call.formula) (HasFormulaFault m k) → formula_stop m k ≡ formula_stop n l
+    → HasText d call.formula (HasFormulaFault m k) → formula_stop m k ≡ formula_stop n l
 same_stop call d t m n k l told first has =
     let same = dimacs_text.one-fault t m n k l (told_fault call d t m k told has).first first in
     ap (λ (x : ℕ). formula_stop x k) same.0 ∙ ap (λ (x : DimacsKind). formula_stop n x) same.1
@@ -114,7 +114,7 @@ long_formula_comes command d out err status (inr s) call t e long =
 data ProofStops (call : LratCall) (d : DeskSeen) (out : SinkSeen) (f : CnfFormula) (stop : Stop) : Type 0 where
   unreadable : HasFaulted d call.proof → ProofStops call d out f stop
   long : stop ≡ stops.TooLong files.Proof → IsTooLong d files.Proof call.proof → ProofStops call d out f stop
-  faulty_text : (line : ℕ) (kind : LratKind) → stop ≡ stops.Refused (refusals.Proof line kind) → IfSome (d.old.text call.proof) (HasProofFault line kind) → ProofStops call d out f stop
+  faulty_text : (line : ℕ) (kind : LratKind) → stop ≡ stops.Refused (refusals.Proof line kind) → HasText d call.proof (HasProofFault line kind) → ProofStops call d out f stop
   faulty_step : (step : ℕ) (kind : ProofKind) → stop ≡ stops.Refused (refusals.Step step kind) → (p : List LratStep) → HasProof call d p → first_fault f p ≡ Some (step, kind)
       → ProofStops call d out f stop
   written : Failed out → (p : List LratStep) → HasProof call d p → Accepted f p → ProofStops call d out f stop

@@ -12,7 +12,7 @@ use Rattle.board_core.specs.declared.entry.Entry.{Entry}
 use Rattle.sim_walk.specs.declared.visit.Visit.{Visit}
 use Rattle.sim_walk.specs.Walk.{goals_of}
 use Rattle.sim_walk.specs.Zero.{zero_lanes, AreZeroVisits}
-use Rattle.board_core.specs.History.{IsLegal, IsInOrder, first_entry}
+use Rattle.board_core.specs.History.{IsLegalHistory, IsInOrder, first_entry}
 use Rattle.cover_run.specs.Found.{Found}
 use Rattle.cover_run.specs.Posts.{post_of, posts_of}
 use Rattle.sim_walk.proofs.Visits.{AreDistinct, visited_below, visits_distinct, distinct_tail, visit_inside}
@@ -92,7 +92,7 @@ no_post n (x ∷ vs) g none =
     ∙ no_post (n + 1) vs g (λ h. none (suc h.0, omega (arith, h.1), h.2))
 
 -- ---- the history
-pub posts_legal : (c : Parts) (sig : List ℕ) (o : Options) (vs : List Visit) → AreZeroVisits c sig o.length vs → IsLegal o (2 ^ length sig) (posts_of vs)
+pub posts_legal : (c : Parts) (sig : List ℕ) (o : Options) (vs : List Visit) → AreZeroVisits c sig o.length vs → IsLegalHistory o (2 ^ length sig) (posts_of vs)
 posts_legal c sig o vs walked =
     let distinct = visits_distinct c sig (zero_lanes c) o.length vs walked in
     record {

@@ -5,7 +5,8 @@ use Rattle.aig_model.specs.declared.parts.Parts.{Parts}
 use Rattle.aig_ascii.specs.Aag.{SpellsCircuit, IsFirstFault as IsFirstInCircuit, demands}
 use Rattle.aig_ascii.specs.declared.fault.AagKind.{AagKind}
 use Rattle.aig_ascii.proofs.RightParts.{text-apart}
-use Rattle.aig_ascii.proofs.Answering.{none-unmet, one-circuit, one-fault, no-fault}
+use Rattle.aig_ascii.proofs.FirstFaults.{none-unmet}
+use Rattle.aig_ascii.proofs.CircuitsAndFaults.{one-circuit, one-fault, no-fault}
 use Rattle.signal_list.specs.SignalText.{SpellsSignals, IsFirstFault as IsFirstInSignals}
 use Rattle.signal_list.specs.declared.fault.SigKind.{SigKind}
 use Rattle.signal_list.proofs.OneReading as signals_text
@@ -19,16 +20,16 @@ use Rattle.cover_run.specs.Files.{limit_of}
 use Rattle.cover_run.specs.Promises.{IsTold, IsToldTooLong, BadCircuitComes, BadSignalsComes, LongCircuitComes, LongSignalsComes}
 use Rattle.cover_run.specs.Seen.{DeskSeen, SinkSeen}
 use Rattle.cover_run.specs.Words.{Subject, Meaning}
-use Rattle.cover_run.proofs.WhereTold.{IfSome-at}
+use Rattle.cover_run.proofs.WhereTold.{text-at}
 use Rattle.cover_run.proofs.Promised.{told_long, stopped_so}
 use Rattle.cover_run.proofs.Stopped.{ReadStops, circuit_unreadable, circuit_long, bad_circuit, signals_unreadable, signals_long, bad_signals, SubjectStops, subject_unread, subject_accepted, subject_memory, subject_stops, SubjectOutput, made_of, subject_output}
 
 -- ---- the circuit that is told is the one meant
 told_circuit : (s : Subject) (d : DeskSeen) (c : Parts) (t : List ℕ) → d.old.text s.circuit ≡ Some t → HasCircuit s d c → IsCircuitText c t
-told_circuit s d c t told has = IfSome-at (IsCircuitText c) (d.old.text s.circuit) t told has
+told_circuit s d c t told has = text-at d s.circuit t (IsCircuitText c) told has
 
 told_fault : (s : Subject) (d : DeskSeen) (t : List ℕ) (at : ℕ) (kind : AagKind) → d.old.text s.circuit ≡ Some t → RefusesCircuit s d at kind → HasCircuitFault at kind t
-told_fault s d t at kind told refused = IfSome-at (HasCircuitFault at kind) (d.old.text s.circuit) t told refused
+told_fault s d t at kind told refused = text-at d s.circuit t (HasCircuitFault at kind) told refused
 
 -- a text with a first fault spells no circuit
 told_none : (s : Subject) (d : DeskSeen) (t : List ℕ) (at : ℕ) (kind : AagKind) → d.old.text s.circuit ≡ Some t → IsFirstInCircuit t at kind → HasSomeCircuit s d → ⊥
@@ -43,13 +44,13 @@ same_told s d t c e told spells has = one_circuit t e c (told_circuit s d e t to
 pub signals_spelled : (s : Subject) (d : DeskSeen) (t u : List ℕ) (c e : Parts) (sig : List ℕ) → d.old.text s.circuit ≡ Some t → SpellsCircuit t c → d.old.text s.signals ≡ Some u
     → HasCircuit s d e → HasSignals s d e sig → IsSignalsText c sig u
 signals_spelled s d t u c e sig told spells told_u has has_signals =
-    subst (λ (x : Parts). IsSignalsText x sig u) (same_told s d t c e told spells has) (IfSome-at (IsSignalsText e sig) (d.old.text s.signals) u told_u has_signals)
+    subst (λ (x : Parts). IsSignalsText x sig u) (same_told s d t c e told spells has) (text-at d s.signals u (IsSignalsText e sig) told_u has_signals)
 
 signals_fault : (s : Subject) (d : DeskSeen) (t u : List ℕ) (c : Parts) (line : ℕ) (kind : SigKind) → d.old.text s.circuit ≡ Some t → SpellsCircuit t c
     → d.old.text s.signals ≡ Some u → RefusesSignals s d line kind → HasSignalsFault c line kind u
 signals_fault s d t u c line kind told spells told_u (e, has, fault) =
     subst (λ (x : Parts). HasSignalsFault x line kind u) (same_told s d t c e told spells has)
-    (IfSome-at (HasSignalsFault e line kind) (d.old.text s.signals) u told_u fault)
+    (text-at d s.signals u (HasSignalsFault e line kind) told_u fault)
 
 -- ---- a circuit with a fault
 bad_circuit_stops : (s : Subject) (d : DeskSeen) (stop : Stop) (t : List ℕ) (at : ℕ) (kind : AagKind) → IsTold d files.Circuit s.circuit t → IsFirstInCircuit t at kind

@@ -9,6 +9,8 @@ abbrev pub usage_text : List ℕ
 usage_text =
     codes "Usage: ketch COMMAND ..\n\n"
     ++ codes "  cover CIRCUIT SIGNALS [OPTIONS]  find out which combinations of signals a circuit can show\n"
+    ++ codes "  goals CIRCUIT SIGNALS            print the circuit whose bad literals are the goals\n"
+    ++ codes "  replay CIRCUIT SIGNALS WITNESS   replay a witness from reset, and print the goal that it shows\n"
     ++ codes "  lrat FORMULA PROOF               check an LRAT proof that a DIMACS formula has no model\n"
     ++ codes "  --help                           print this text\n"
     ++ codes "  --version                        print the version\n\n"
@@ -31,16 +33,16 @@ options_text =
 abbrev pub statuses_text : List ℕ
 statuses_text =
     codes "Statuses:\n\n"
-    ++ codes "  0  every goal is settled, or the proof is accepted\n"
+    ++ codes "  0  every goal is settled, the circuit is printed, or the proof or witness is accepted\n"
     ++ codes "  1  some goal is open\n"
-    ++ codes "  2  the words mean nothing\n"
+    ++ codes "  2  an invalid command line\n"
     ++ codes "  3  a file cannot be read\n"
     ++ codes "  4  the circuit is not accepted\n"
     ++ codes "  5  the signals are not accepted\n"
     ++ codes "  6  a file or a number is past its limit\n"
     ++ codes "  7  the output cannot be written\n"
     ++ codes "  8  out of memory\n"
-    ++ codes "  9  the proof is not accepted\n"
+    ++ codes "  9  the proof or witness is not accepted\n"
 
 abbrev pub help_text : List ℕ
 help_text = usage_text ++ options_text ++ statuses_text

@@ -1,6 +1,6 @@
 -- How a run ends, and why.
 use Rattle.std.specs.Prelude.{◌≡◌, ◌≢◌, ◌⊎◌, ℕ, Bool, true, List, IsSomeAnd}
-use Rattle.run_io.specs.Sink.{GrewByPrefix}
+use Rattle.run_io.specs.Sink.{GrewByPart}
 use Rattle.aig_ascii.specs.declared.fault.AagKind.{AagKind}
 use Rattle.signal_list.specs.declared.fault.SigKind.{SigKind}
 use Rattle.cover_run.specs.declared.stop.File.{File}
@@ -14,10 +14,12 @@ use Rattle.cover_run.specs.declared.stop.Status.{Status}
 use Rattle.cover_run.specs.About.{help_text, version_text}
 use Rattle.cover_run.specs.Checking.{HasSomeFormula, HasLargeFormula, Refuses, IsLratOutput}
 use Rattle.cover_run.specs.Covering.{HasSomeCircuit, RefusesCircuit, RefusesSignals, HasTooMuch, IsCoverOutput}
-use Rattle.cover_run.specs.Files.{subject_of, files_of, name_of, IsTooLong, IsFine, HasRead}
-use Rattle.cover_run.specs.Seen.{DeskSeen, SinkSeen, HasFaulted, Failed, Took, TookWhatItCould}
+use Rattle.cover_run.specs.Exporting.{HasTooManyGoals, IsGoalsOutput}
+use Rattle.cover_run.specs.Files.{subject_of, files_of, name_of, IsTooLong, IsAllRead, HasRead}
+use Rattle.cover_run.specs.Replaying.{HasSomeSubject, RefusesReplay, IsReplayOutput}
+use Rattle.cover_run.specs.Seen.{DeskSeen, SinkSeen, HasFaulted, Failed, HasSameCounts, Took, TookWhatItCould}
 use Rattle.cover_run.specs.Stops.{status_of, settled_status, line_of}
-use Rattle.cover_run.specs.Words.{Meaning, Usage, Help, Version, Cover, Lrat}
+use Rattle.cover_run.specs.Words.{Meaning, Usage, Help, Version, Cover, Goals, Replay, Lrat}
 
 -- ---- the output of a command
 -- these bytes are the whole output, and this says whether it leaves nothing open
@@ -26,12 +28,15 @@ IsOutput Usage d bytes settled = ⊥
 IsOutput Help d bytes settled = (bytes ≡ help_text) × (settled ≡ true)
 IsOutput Version d bytes settled = (bytes ≡ version_text) × (settled ≡ true)
 IsOutput (Cover call) d bytes settled = IsCoverOutput call d bytes settled
+IsOutput (Goals s) d bytes settled = IsGoalsOutput s d bytes settled
+IsOutput (Replay call) d bytes settled = IsReplayOutput call d bytes settled
 IsOutput (Lrat call) d bytes settled = IsLratOutput call d bytes settled
 
 -- ---- why a command stops, in the order of the refusals
 -- the files before this one were accepted
 abbrev pub IsReached : Meaning → DeskSeen → File → Type 0
 IsReached command d files.Signals = IsSomeAnd (subject_of command) (λ s. HasSomeCircuit s d)
+IsReached (Replay call) d files.Witness = HasSomeSubject call.subject d
 IsReached (Lrat call) d files.Proof = HasSomeFormula call d
 IsReached command d f = Unit {0}
 
@@ -44,10 +49,12 @@ HasBadSignals command d line kind = IsSomeAnd (subject_of command) (λ s. Refuse
 -- a number of the input is past its limit
 abbrev pub IsTooLarge : Meaning → DeskSeen → Measure → Type 0
 IsTooLarge (Cover call) d m = HasTooMuch call d m
+IsTooLarge (Goals s) d m = HasTooManyGoals s d m
 IsTooLarge (Lrat call) d measures.Formula = HasLargeFormula call d
 IsTooLarge command d m = ⊥
 
 abbrev pub IsRefused : Meaning → DeskSeen → Refusal → Type 0
+IsRefused (Replay call) d why = RefusesReplay call d why
 IsRefused (Lrat call) d why = Refuses call d why
 IsRefused command d why = ⊥
 
@@ -68,9 +75,9 @@ abbrev pub Cause : Meaning → DeskSeen → SinkSeen → Stop → Type 0
 Cause command d out stops.CannotWrite = Failed out × ((bytes : List ℕ) × (settled : Bool) × IsOutput command d bytes settled)
 Cause command d out stop = EarlyCause command d stop
 
--- a prefix of the whole output was taken
+-- a part from the front of the whole output was taken, and not all
 abbrev pub IsPartial : Meaning → DeskSeen → SinkSeen → Type 0
-IsPartial command d out = (bytes : List ℕ) × (settled : Bool) × IsOutput command d bytes settled × GrewByPrefix out.old.taken out.new.taken bytes
+IsPartial command d out = (bytes : List ℕ) × (settled : Bool) × IsOutput command d bytes settled × GrewByPart out.old.taken out.new.taken bytes
 
 -- what is left of the output: nothing, unless it couldn't be written
 abbrev pub Leaves : Meaning → DeskSeen → SinkSeen → Stop → Type 0
@@ -86,8 +93,9 @@ pub record IsStopped (command : Meaning) (d : DeskSeen) (out : SinkSeen) (stop :
 pub record IsWhole (command : Meaning) (d : DeskSeen) (out : SinkSeen) (settled : Bool) : Type 0 where
   pub bytes : List ℕ
   pub output : IsOutput command d bytes settled
-  pub read : IsFine (files_of command) d
+  pub read : IsAllRead (files_of command) d
   pub took : Took out bytes
+  pub counts : HasSameCounts out
 
 pub record IsWholeAnswer (command : Meaning) (d : DeskSeen) (out : SinkSeen) (status : Status) : Type 0 where
   pub settled : Bool

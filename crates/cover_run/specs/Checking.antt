@@ -1,5 +1,5 @@
 -- What `lrat` reads and writes.
-use Rattle.std.specs.Prelude.{◌≡◌, ◌≢◌, ℕ, ◌≤◌, Bool, true, List, length, codes, Some, IfSome}
+use Rattle.std.specs.Prelude.{◌≡◌, ◌≢◌, ℕ, ◌≤◌, Bool, true, List, length, codes, Some}
 use Rattle.cnf_base.specs.Meaning.{CnfFormula}
 use Rattle.cnf_base.specs.Dimacs.{SpellsFormula, IsFirstFault as IsFirstInFormula}
 use Rattle.cnf_base.specs.declared.fault.DimacsKind.{DimacsKind}
@@ -16,7 +16,7 @@ use Rattle.cover_run.specs.declared.stop.Refusal.TheVariants as refusals
 use Rattle.cover_run.specs.declared.stop.Stop.{Stop}
 use Rattle.cover_run.specs.declared.stop.Stop.TheVariants as stops
 use Rattle.cover_run.specs.Files.{limit_of}
-use Rattle.cover_run.specs.Seen.{DeskSeen}
+use Rattle.cover_run.specs.Seen.{DeskSeen, HasText}
 use Rattle.cover_run.specs.Words.{LratCall}
 
 -- a text within its limit that spells the formula, and one that spells the proof
@@ -37,12 +37,12 @@ pub record HasProofFault (line : ℕ) (kind : LratKind) (t : List ℕ) : Type 0 
   pub short : length t ≤ limit_of files.Proof
   pub first : IsFirstInProof t line kind
 
--- the texts, where they are told, spell this formula and this proof
+-- texts spell this formula and this proof: the ones that are told, where they are told
 abbrev pub HasFormula : LratCall → DeskSeen → CnfFormula → Type 0
-HasFormula call d f = IfSome (d.old.text call.formula) (IsFormulaText f)
+HasFormula call d f = HasText d call.formula (IsFormulaText f)
 
 abbrev pub HasProof : LratCall → DeskSeen → List LratStep → Type 0
-HasProof call d p = IfSome (d.old.text call.proof) (IsProofText p)
+HasProof call d p = HasText d call.proof (IsProofText p)
 
 -- the formula was read before the proof was looked at
 abbrev pub HasSomeFormula : LratCall → DeskSeen → Type 0
@@ -51,14 +51,15 @@ HasSomeFormula call d = (f : CnfFormula) × HasFormula call d f
 -- ---- the refusals
 -- the formula's header is past the limits
 abbrev pub HasLargeFormula : LratCall → DeskSeen → Type 0
-HasLargeFormula call d = (line : ℕ) × IfSome (d.old.text call.formula) (HasFormulaFault line dimacs.Limit)
+HasLargeFormula call d = (line : ℕ) × HasText d call.formula (HasFormulaFault line dimacs.Limit)
 
 -- what is wrong first: in the formula's text, in the proof's text, or in a step
 abbrev pub Refuses : LratCall → DeskSeen → Refusal → Type 0
-Refuses call d (refusals.Formula line kind) = (kind ≢ dimacs.Limit) × IfSome (d.old.text call.formula) (HasFormulaFault line kind)
-Refuses call d (refusals.Proof line kind) = HasSomeFormula call d × IfSome (d.old.text call.proof) (HasProofFault line kind)
+Refuses call d (refusals.Formula line kind) = (kind ≢ dimacs.Limit) × HasText d call.formula (HasFormulaFault line kind)
+Refuses call d (refusals.Proof line kind) = HasSomeFormula call d × HasText d call.proof (HasProofFault line kind)
 Refuses call d (refusals.Step step kind) =
     (f : CnfFormula) × (p : List LratStep) × HasFormula call d f × HasProof call d p × (first_fault f p ≡ Some (step, kind))
+Refuses call d why = ⊥
 
 -- what a fault of the formula stops with: its limit is one of the measures
 abbrev pub formula_stop : ℕ → DimacsKind → Stop

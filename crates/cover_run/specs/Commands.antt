@@ -4,6 +4,7 @@ use Rattle.cover_run.specs.declared.settings.Given.{Given}
 use Rattle.cover_run.specs.declared.settings.Taken.{Taken}
 use Rattle.cover_run.specs.declared.command.Cover.{Cover}
 use Rattle.cover_run.specs.declared.command.Lrat.{Lrat}
+use Rattle.cover_run.specs.declared.command.Replay.{Replay}
 use Rattle.cover_run.specs.declared.command.Subject.{Subject}
 use Rattle.cover_run.specs.declared.command.Command.{Command}
 use Rattle.cover_run.specs.declared.command.Command.TheVariants as commands
@@ -21,6 +22,9 @@ subject_named subject = record { circuit = subject.circuit.now; signals = subjec
 abbrev pub cover_call : Cover → meanings.CoverCall
 cover_call call = record { subject = subject_named call.subject; options = call.options; workers = call.workers }
 
+abbrev pub replay_call : Replay → meanings.ReplayCall
+replay_call call = record { subject = subject_named call.subject; witness = call.witness.now }
+
 abbrev pub lrat_call : Lrat → meanings.LratCall
 lrat_call call = record { formula = call.formula.now; proof = call.proof.now }
 
@@ -29,4 +33,6 @@ meaning_of commands.Usage = meanings.Usage
 meaning_of commands.Help = meanings.Help
 meaning_of commands.Version = meanings.Version
 meaning_of (commands.Cover call) = meanings.Cover (cover_call call)
+meaning_of (commands.Goals subject) = meanings.Goals (subject_named subject)
+meaning_of (commands.Replay call) = meanings.Replay (replay_call call)
 meaning_of (commands.Lrat call) = meanings.Lrat (lrat_call call)

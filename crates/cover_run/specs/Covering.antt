@@ -1,5 +1,5 @@
 -- What `cover` reads and writes.
-use Rattle.std.specs.Prelude.{◌≡◌, ℕ, ◌+◌, ◌*◌, ◌<◌, ◌≤◌, max, Bool, nat_eq, List, length, IfSome}
+use Rattle.std.specs.Prelude.{◌≡◌, ℕ, ◌+◌, ◌*◌, ◌<◌, ◌≤◌, max, Bool, nat_eq, List, length}
 use Rattle.aig_model.specs.SignalList.{IsSignals}
 use Rattle.aig_model.specs.WellFormed.{IsCircuit}
 use Rattle.aig_model.specs.declared.parts.Parts.{Parts}
@@ -11,19 +11,21 @@ use Rattle.cover_run.specs.declared.stop.Measure.{Measure}
 use Rattle.cover_run.specs.declared.stop.Measure.TheVariants as measures
 use Rattle.cover_run.specs.Files.{limit_of}
 use Rattle.cover_run.specs.Report.{IsReport}
-use Rattle.cover_run.specs.Seen.{DeskSeen}
+use Rattle.cover_run.specs.Seen.{DeskSeen, HasText}
 use Rattle.cover_run.specs.Words.{Subject, CoverCall}
 use Rattle.signal_list.specs.SignalText.{SpellsSignals, IsFirstFault as IsFirstInSignals}
 use Rattle.signal_list.specs.declared.fault.SigKind.{SigKind}
 
--- a text within its limit that spells the circuit, and one that spells the signals
+-- a text within its limit that spells the circuit, and one that spells the signals; both are well formed
 pub record IsCircuitText (c : Parts) (t : List ℕ) : Type 0 where
   pub short : length t ≤ limit_of files.Circuit
   pub spells : SpellsCircuit t c
+  pub right : IsCircuit c
 
 pub record IsSignalsText (c : Parts) (sig : List ℕ) (t : List ℕ) : Type 0 where
   pub short : length t ≤ limit_of files.Signals
   pub spells : SpellsSignals c t sig
+  pub right : IsSignals c sig
 
 -- a text within its limit with this first fault, as a circuit
 pub record HasCircuitFault (at : ℕ) (kind : AagKind) (t : List ℕ) : Type 0 where
@@ -35,12 +37,12 @@ pub record HasSignalsFault (c : Parts) (line : ℕ) (kind : SigKind) (t : List �
   pub short : length t ≤ limit_of files.Signals
   pub first : IsFirstInSignals c t line kind
 
--- the texts, where they are told, are accepted as this circuit and these signals
+-- texts are accepted as this circuit and these signals: the ones that are told, where they are told
 abbrev pub HasCircuit : Subject → DeskSeen → Parts → Type 0
-HasCircuit s d c = IfSome (d.old.text s.circuit) (IsCircuitText c)
+HasCircuit s d c = HasText d s.circuit (IsCircuitText c)
 
 abbrev pub HasSignals : Subject → DeskSeen → Parts → List ℕ → Type 0
-HasSignals s d c sig = IfSome (d.old.text s.signals) (IsSignalsText c sig)
+HasSignals s d c sig = HasText d s.signals (IsSignalsText c sig)
 
 -- the circuit is accepted
 abbrev pub HasSomeCircuit : Subject → DeskSeen → Type 0
@@ -67,23 +69,20 @@ IsTooMuch o c m = ⊥
 
 -- ---- the refusals
 abbrev pub RefusesCircuit : Subject → DeskSeen → ℕ → AagKind → Type 0
-RefusesCircuit s d at kind = IfSome (d.old.text s.circuit) (HasCircuitFault at kind)
+RefusesCircuit s d at kind = HasText d s.circuit (HasCircuitFault at kind)
 
 abbrev pub RefusesSignals : Subject → DeskSeen → ℕ → SigKind → Type 0
-RefusesSignals s d line kind = (c : Parts) × HasCircuit s d c × IfSome (d.old.text s.signals) (HasSignalsFault c line kind)
+RefusesSignals s d line kind = (c : Parts) × HasCircuit s d c × HasText d s.signals (HasSignalsFault c line kind)
 
 -- both texts are accepted, and what is asked for is too much
 abbrev pub HasTooMuch : CoverCall → DeskSeen → Measure → Type 0
 HasTooMuch call d m = (c : Parts) × (sig : List ℕ) × HasCircuit call.subject d c × HasSignals call.subject d c sig × IsTooMuch call.options c m
 
 -- ---- the output
--- These bytes are the whole output, and this says whether it leaves nothing open. The circuit and the signals are well formed
--- on any desk, and the ones of the texts where these are told.
+-- these bytes are the whole output, and this says whether it leaves nothing open
 pub record IsCoverOutput (call : CoverCall) (d : DeskSeen) (bytes : List ℕ) (settled : Bool) : Type 0 where
   pub circuit : Parts
   pub signals : List ℕ
-  pub right_circuit : IsCircuit circuit
-  pub right_signals : IsSignals circuit signals
   pub has_circuit : HasCircuit call.subject d circuit
   pub has_signals : HasSignals call.subject d circuit signals
   pub room : HasRoom call.options circuit

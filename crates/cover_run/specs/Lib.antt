@@ -5,10 +5,12 @@ pub mod Bounds
 pub mod Checking
 pub mod Commands
 pub mod Covering
+pub mod Exporting
 pub mod Files
 pub mod Found
 pub mod Posts
 pub mod Promises
+pub mod Replaying
 pub mod Report
 pub mod Seen
 pub mod Settings

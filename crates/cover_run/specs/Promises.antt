@@ -17,6 +17,7 @@ use Rattle.lrat_check.specs.declared.fault.ProofKind.{ProofKind}
 use Rattle.cover_run.specs.declared.stop.File.{File}
 use Rattle.cover_run.specs.declared.stop.File.TheVariants as files
 use Rattle.cover_run.specs.declared.stop.Measure.{Measure}
+use Rattle.cover_run.specs.declared.stop.Measure.TheVariants as measures
 use Rattle.cover_run.specs.declared.stop.Refusal.{Refusal}
 use Rattle.cover_run.specs.declared.stop.Refusal.TheVariants as refusals
 use Rattle.cover_run.specs.declared.stop.Stop.{Stop}
@@ -28,11 +29,18 @@ use Rattle.cover_run.specs.Answer.{Cause, HasBadCircuit, HasBadSignals, IsTooLar
 use Rattle.cover_run.specs.About.{help_text, version_text}
 use Rattle.cover_run.specs.Checking.{formula_stop}
 use Rattle.cover_run.specs.Covering.{HasRoom, IsTooMuch}
-use Rattle.cover_run.specs.Files.{subject_of, files_of, name_of, limit_of, IsTooLong, IsWithin, IsPast}
+use Rattle.cover_run.specs.Exporting.{IsTooManyGoals, IsGoalText}
+use Rattle.cover_run.specs.Files.{subject_of, files_of, name_of, limit_of, IsTooLong, IsWithin, HasFailed, IsPast, IsAllRead}
+use Rattle.aig_model.specs.Replays.{Shows}
+use Rattle.wit_text.specs.WitnessText.{SpellsWitness, IsFirstFault as IsFirstInWitness}
+use Rattle.wit_text.specs.declared.fault.WitKind.{WitKind}
+use Rattle.wit_text.specs.declared.witness.Witness.{Witness}
+use Rattle.cover_run.specs.declared.stop.Misfit.{Misfit}
+use Rattle.cover_run.specs.Replaying.{IsWitnessText, IsMisfit, replay_line}
 use Rattle.cover_run.specs.Report.{IsReport, SettlesAsked}
-use Rattle.cover_run.specs.Seen.{DeskSeen, SinkSeen, HasFaulted, Failed, Took, TookWhatItCould}
+use Rattle.cover_run.specs.Seen.{DeskSeen, SinkSeen, HasFaulted, Failed, HasSameCounts, Took, TookWhatItCould}
 use Rattle.cover_run.specs.Stops.{line_of, status_of, settled_status}
-use Rattle.cover_run.specs.Words.{Subject, CoverCall, LratCall, Meaning, Help, Version, Cover, Lrat}
+use Rattle.cover_run.specs.Words.{Subject, CoverCall, ReplayCall, LratCall, Meaning, Help, Version, Cover, Goals, Replay, Lrat}
 
 -- ---- premises
 -- the desk tells this text of the file's name, within the file's limit, and no fault of the name was counted
@@ -48,13 +56,13 @@ pub record IsToldTooLong (d : DeskSeen) (f : File) (name t : List ℕ) : Type 0 
   pub no_fault : ¬ HasFaulted d name
 
 -- the texts that the desk tells are accepted within their limits as this circuit and these signals
-pub record Accepts (call : CoverCall) (d : DeskSeen) (c : Parts) (sig : List ℕ) : Type 0 where
+pub record Accepts (s : Subject) (d : DeskSeen) (c : Parts) (sig : List ℕ) : Type 0 where
   pub circuit_text : List ℕ
-  pub circuit_told : d.old.text call.subject.circuit ≡ Some circuit_text
+  pub circuit_told : d.old.text s.circuit ≡ Some circuit_text
   pub circuit_short : length circuit_text ≤ limit_of files.Circuit
   pub circuit : SpellsCircuit circuit_text c
   pub signals_text : List ℕ
-  pub signals_told : d.old.text call.subject.signals ≡ Some signals_text
+  pub signals_told : d.old.text s.signals ≡ Some signals_text
   pub signals_short : length signals_text ≤ limit_of files.Signals
   pub signals : SpellsSignals c signals_text sig
 
@@ -77,7 +85,7 @@ pub record IsUndisturbed (command : Meaning) (d : DeskSeen) (out : SinkSeen) : T
 abbrev pub HasEnded : Status → Type 0
 HasEnded status = (status ≡ statuses.Settled) ⊎ (status ≡ statuses.Open)
 
--- this stop is the answer, and its line was said, want of memory aside
+-- this stop is the answer, and its line was said, out of memory aside
 abbrev pub Answers : SinkSeen → Status → Stop → Type 0
 Answers err status stop = ((status ≡ status_of stop) × TookWhatItCould err (line_of stop)) ⊎ (status ≡ statuses.WantOfMemory)
 
@@ -94,17 +102,17 @@ pub record IsCovered (call : CoverCall) (c : Parts) (sig : List ℕ) (out : Sink
 
 abbrev pub Headline : Meaning → DeskSeen → SinkSeen → Status → Type 0
 Headline command d out status =
-    (call : CoverCall) (c : Parts) (sig : List ℕ) → command ≡ Cover call → Accepts call d c sig → HasEnded status → IsCovered call c sig out status
+    (call : CoverCall) (c : Parts) (sig : List ℕ) → command ≡ Cover call → Accepts call.subject d c sig → HasEnded status → IsCovered call c sig out status
 
 -- ---- completeness
 pub record IsComplete (call : CoverCall) (c : Parts) (sig : List ℕ) (out : SinkSeen) (status : Status) : Type 0 where
   pub covered : IsCovered call c sig out status
   pub asked : SettlesAsked c sig covered.is_report.report
 
--- with no cause of a refusal and no fault, the whole report is written, want of memory aside
+-- with no cause of a refusal and no fault, the whole report is written, out of memory aside
 abbrev pub Completeness : Meaning → DeskSeen → SinkSeen → Status → Type 0
 Completeness command d out status =
-    (call : CoverCall) (c : Parts) (sig : List ℕ) → command ≡ Cover call → Accepts call d c sig → HasRoom call.options c → IsUndisturbed command d out
+    (call : CoverCall) (c : Parts) (sig : List ℕ) → command ≡ Cover call → Accepts call.subject d c sig → HasRoom call.options c → IsUndisturbed command d out
     → IsComplete call c sig out status ⊎ (status ≡ statuses.WantOfMemory)
 
 -- ---- a proof is accepted
@@ -146,22 +154,26 @@ abbrev pub PrintedComes : Meaning → SinkSeen → Status → Type 0
 PrintedComes command out status = (text : List ℕ) → fixed_text command ≡ Some text → ¬ Failed out → IsPrinted text out status ⊎ (status ≡ statuses.WantOfMemory)
 
 -- ---- statuses 0 and 1, on any desk
--- the whole output was taken, it is one that is right for what was read, and the status says whether it leaves something open
+-- the whole output was taken, with no fault and no idle write, it is one that is right for what was read, and the status says
+-- whether it leaves something open
 pub record IsWritten (command : Meaning) (d : DeskSeen) (out : SinkSeen) (status : Status) : Type 0 where
   pub bytes : List ℕ
   pub settled : Bool
   pub output : IsOutput command d bytes settled
   pub took : Took out bytes
+  pub counts : HasSameCounts out
   pub status_is : status ≡ settled_status settled
 
 abbrev pub WrittenCause : Meaning → DeskSeen → SinkSeen → Status → Type 0
 WrittenCause command d out status = HasEnded status → IsWritten command d out status
 
 -- ---- causes, status by status
--- only where the faults of the file in the line rose
+-- only where the faults of the file in the line rose, the files before it were read to their ends, and it couldn't be started
+-- or is the last that was
 abbrev pub ReadFaultCause : Meaning → DeskSeen → SinkSeen → Status → Type 0
 ReadFaultCause command d err status =
-    status ≡ statuses.ReadFault → (f : File) × IsSomeAnd (name_of command f) (HasFaulted d) × TookWhatItCould err (line_of (stops.Unreadable f))
+    status ≡ statuses.ReadFault
+    → (f : File) × IsSomeAnd (name_of command f) (HasFaulted d) × HasFailed (files_of command) d f × TookWhatItCould err (line_of (stops.Unreadable f))
 
 -- only where the circuit's text has the first fault that the line says
 abbrev pub BadCircuitCause : Meaning → DeskSeen → SinkSeen → Status → Type 0
@@ -173,8 +185,8 @@ abbrev pub BadSignalsCause : Meaning → DeskSeen → SinkSeen → Status → Ty
 BadSignalsCause command d err status =
     status ≡ statuses.BadSignals → (line : ℕ) × (kind : SigKind) × HasBadSignals command d line kind × TookWhatItCould err (line_of (stops.BadSignals line kind))
 
--- only where a byte past the limit of the file in the line was given, and none past that of a file before it; or where the number
--- in the line is past its limit
+-- only where a byte past the limit of the file in the line was given, which is the last that was started, and the files before it
+-- were read to their ends; or where the number in the line is past its limit
 abbrev pub LimitCause : Meaning → DeskSeen → SinkSeen → Status → Type 0
 LimitCause command d err status =
     status ≡ statuses.Limit
@@ -184,6 +196,10 @@ LimitCause command d err status =
 -- under every other status no file was given past its limit
 abbrev pub WithinLimits : Meaning → DeskSeen → Status → Type 0
 WithinLimits command d status = ¬ (status ≡ statuses.Limit) → IsWithin (files_of command) d
+
+-- under 0, 1 and 7 all files of the command were read to their ends, and no others were started
+abbrev pub AllRead : Meaning → DeskSeen → Status → Type 0
+AllRead command d status = HasEnded status ⊎ (status ≡ statuses.WriteFault) → IsAllRead (files_of command) d
 
 -- under every other status than 3 no fault was counted
 abbrev pub NoFault : DeskSeen → Status → Type 0
@@ -221,6 +237,81 @@ abbrev pub TooMuchComes : Meaning → DeskSeen → SinkSeen → Status → Type 
 TooMuchComes command d err status =
     (call : CoverCall) (t : List ℕ) (c : Parts) (u sig : List ℕ) (m : Measure) → command ≡ Cover call → IsTold d files.Circuit call.subject.circuit t → SpellsCircuit t c
     → IsTold d files.Signals call.subject.signals u → SpellsSignals c u sig → IsTooMuch call.options c m → Answers err status (stops.TooLarge m)
+
+-- ---- the goal circuit is printed
+-- the goal circuit isn't too large, and the output took exactly a text of it, which spells it
+pub record IsExported (c : Parts) (sig : List ℕ) (out : SinkSeen) (status : Status) : Type 0 where
+  pub settled : status ≡ statuses.Settled
+  pub bytes : List ℕ
+  pub took : Took out bytes
+  pub is_text : IsGoalText c sig bytes
+
+-- status 0 or 1 comes only with a text of the goal circuit, and is 0
+abbrev pub ExportedCause : Meaning → DeskSeen → SinkSeen → Status → Type 0
+ExportedCause command d out status =
+    (s : Subject) (c : Parts) (sig : List ℕ) → command ≡ Goals s → Accepts s d c sig → HasEnded status → IsExported c sig out status
+
+-- and there it comes, where nothing failed
+abbrev pub ExportedComes : Meaning → DeskSeen → SinkSeen → Status → Type 0
+ExportedComes command d out status =
+    (s : Subject) (c : Parts) (sig : List ℕ) → command ≡ Goals s → Accepts s d c sig → ¬ IsTooManyGoals c sig → IsUndisturbed command d out
+    → IsExported c sig out status ⊎ (status ≡ statuses.WantOfMemory)
+
+-- a goal circuit that would be too large is refused so
+abbrev pub ManyGoalsComes : Meaning → DeskSeen → SinkSeen → Status → Type 0
+ManyGoalsComes command d err status =
+    (s : Subject) (t : List ℕ) (c : Parts) (u sig : List ℕ) → command ≡ Goals s → IsTold d files.Circuit s.circuit t → SpellsCircuit t c
+    → IsTold d files.Signals s.signals u → SpellsSignals c u sig → IsTooManyGoals c sig → Answers err status (stops.TooLarge measures.Goals)
+
+-- ---- a witness is replayed
+-- no fault of the two files, of which the texts are told and accepted, was counted
+pub record IsToldSubject (s : Subject) (d : DeskSeen) (c : Parts) (sig : List ℕ) : Type 0 where
+  pub accepts : Accepts s d c sig
+  pub circuit_no_fault : ¬ HasFaulted d s.circuit
+  pub signals_no_fault : ¬ HasFaulted d s.signals
+
+-- the desk tells a text that spells this witness within its limit
+pub record SpellsReplay (call : ReplayCall) (d : DeskSeen) (c : Parts) (w : Witness) : Type 0 where
+  pub text : List ℕ
+  pub told : d.old.text call.witness ≡ Some text
+  pub is_text : IsWitnessText c w text
+
+-- the trace replays from reset and shows the goal that the witness names, and the output took exactly the line that says so
+pub record IsReplayed (c : Parts) (sig : List ℕ) (w : Witness) (out : SinkSeen) (status : Status) : Type 0 where
+  pub settled : status ≡ statuses.Settled
+  pub shows : Shows c sig w.trace w.property
+  pub took : Took out (replay_line w)
+
+-- status 0 or 1 comes only so, and is 0
+abbrev pub ReplayedCause : Meaning → DeskSeen → SinkSeen → Status → Type 0
+ReplayedCause command d out status =
+    (call : ReplayCall) (c : Parts) (sig : List ℕ) (w : Witness) → command ≡ Replay call → Accepts call.subject d c sig → SpellsReplay call d c w → HasEnded status
+    → IsReplayed c sig w out status
+
+-- and there it comes, where nothing failed
+abbrev pub ReplayedComes : Meaning → DeskSeen → SinkSeen → Status → Type 0
+ReplayedComes command d out status =
+    (call : ReplayCall) (c : Parts) (sig : List ℕ) (w : Witness) → command ≡ Replay call → Accepts call.subject d c sig → SpellsReplay call d c w
+    → Shows c sig w.trace w.property → IsUndisturbed command d out → IsReplayed c sig w out status ⊎ (status ≡ statuses.WantOfMemory)
+
+-- a witness that is told and too long is refused so, where the circuit and the signals are accepted
+abbrev pub LongWitnessComes : Meaning → DeskSeen → SinkSeen → Status → Type 0
+LongWitnessComes command d err status =
+    (call : ReplayCall) (c : Parts) (sig u : List ℕ) → command ≡ Replay call → IsToldSubject call.subject d c sig → IsToldTooLong d files.Witness call.witness u
+    → Answers err status (stops.TooLong files.Witness)
+
+-- a witness's text has a first fault
+abbrev pub BadWitnessComes : Meaning → DeskSeen → SinkSeen → Status → Type 0
+BadWitnessComes command d err status =
+    (call : ReplayCall) (c : Parts) (sig u : List ℕ) (at : ℕ) (kind : WitKind) → command ≡ Replay call → IsToldSubject call.subject d c sig
+    → IsTold d files.Witness call.witness u → IsFirstInWitness (length c.latches) (length c.inputs) u at kind → Answers err status (stops.Refused (refusals.Witness at kind))
+
+-- the witness is spelled, and its trace doesn't show its property
+abbrev pub MisfitComes : Meaning → DeskSeen → SinkSeen → Status → Type 0
+MisfitComes command d err status =
+    (call : ReplayCall) (c : Parts) (sig u : List ℕ) (w : Witness) (misfit : Misfit) → command ≡ Replay call → IsToldSubject call.subject d c sig
+    → IsTold d files.Witness call.witness u → SpellsWitness (length c.latches) (length c.inputs) u w → IsMisfit c sig w misfit
+    → Answers err status (stops.Refused (refusals.Trace misfit))
 
 -- ---- the refusals of `lrat` come
 -- a formula's text has a first fault
@@ -260,7 +351,7 @@ IsEarly status =
     (status ≡ statuses.Usage) ⊎ (status ≡ statuses.ReadFault) ⊎ (status ≡ statuses.BadCircuit) ⊎ (status ≡ statuses.BadSignals) ⊎ (status ≡ statuses.Limit)
     ⊎ (status ≡ statuses.WantOfMemory) ⊎ (status ≡ statuses.Refused)
 
--- under a write fault it grew by a prefix of a whole output, which is right for what was read
+-- under a write fault it grew by a part of a whole output, from its front and not all, which is right for what was read
 abbrev pub PrefixAfterFault : Meaning → DeskSeen → SinkSeen → Status → Type 0
 PrefixAfterFault command d out status = status ≡ statuses.WriteFault → IsPartial command d out
 

@@ -14,7 +14,7 @@ use Rattle.report_text.specs.declared.report.Block.{Block}
 use Rattle.report_text.specs.declared.report.GoalBlock.{GoalBlock}
 use Rattle.report_text.specs.declared.report.GoalBlock.TheVariants as blocks
 use Rattle.report_text.specs.declared.report.Report.{Report}
-use Rattle.board_core.specs.History.{IsLegal, IsInOrder, first_entry, verdict_of}
+use Rattle.board_core.specs.History.{IsLegalHistory, IsInOrder, first_entry, verdict_of}
 use Rattle.cover_run.specs.Found.{Found}
 use Rattle.cover_run.specs.Bounds.{Bounds, bounds_of}
 use Rattle.report_text.specs.Form.{HasForm}
@@ -79,7 +79,7 @@ pub record Tells (c : Parts) (sig : List ℕ) (o : Options) (r : Report) : Type 
   pub latches : r.latches ≡ length c.latches
   pub signals : r.signals ≡ length sig
   pub options : r.options ≡ o
-  pub legal : IsLegal o (2 ^ length sig) r.history
+  pub legal : IsLegalHistory o (2 ^ length sig) r.history
   pub ordered : IsInOrder r.history
   pub found : All (λ (e : Entry). Found c sig o e.source e.goal) r.history
   pub each_goal : length r.goals ≡ 2 ^ length sig

@@ -1,5 +1,5 @@
 -- What is seen of the devices in a call.
-use Rattle.std.specs.Prelude.{◌⊎◌, ◌≡◌, List, ◌++◌, ℕ}
+use Rattle.std.specs.Prelude.{◌⊎◌, ◌≡◌, List, ◌++◌, ℕ, IfSome}
 use Rattle.run_io.specs.Count.{Rose}
 use Rattle.run_io.specs.Desk.{DeskState, FileGiven, files_started}
 use Rattle.run_io.specs.Sink.{SinkState, Grew, GrewByPrefix}
@@ -26,9 +26,20 @@ HasFaulted d name = Rose (d.old.faults name) (d.new.faults name)
 abbrev pub Gave : DeskSeen → List FileGiven → Type 0
 Gave d files = files_started d.new ≡ files_started d.old ++ files
 
+-- some text has this property, and it is the one that the desk tells of the name, where it tells one
+pub record HasText (d : DeskSeen) (name : List ℕ) (P : List ℕ → Type 0) : Type 0 where
+  pub text : List ℕ
+  pub told : IfSome (d.old.text name) (λ t. text ≡ t)
+  pub has : P text
+
 -- a fault or an idle write of the sink was counted
 abbrev pub Failed : SinkSeen → Type 0
 Failed s = Rose s.old.faults s.new.faults ⊎ Rose s.old.idle s.new.idle
+
+-- no fault and no idle write of the sink was counted
+pub record HasSameCounts (s : SinkSeen) : Type 0 where
+  pub same_faults : s.new.faults ≡ s.old.faults
+  pub same_idle : s.new.idle ≡ s.old.idle
 
 -- the sink took just these bytes
 abbrev pub Took : SinkSeen → List ℕ → Type 0

@@ -1,5 +1,5 @@
 -- Causes of the steps of a command.
-use Rattle.std.specs.Prelude.{◌≡◌, ◌≢◌, ◌≤◌, ℕ, List, [], ◌∷◌, Some}
+use Rattle.std.specs.Prelude.{◌≡◌, ◌≢◌, ℕ, List, length, [], ◌∷◌, Some}
 use Rattle.aig_model.specs.declared.parts.Parts.{Parts}
 use Rattle.sim_walk.specs.declared.options.Options.{Options}
 use Rattle.run_io.specs.Desk.{HasSameFaults}
@@ -17,7 +17,11 @@ use Rattle.cover_run.specs.declared.stop.Refusal.TheVariants as refusals
 use Rattle.cover_run.specs.declared.stop.Stop.{Stop}
 use Rattle.cover_run.specs.declared.stop.Stop.TheVariants as stops
 use Rattle.cover_run.specs.Covering.{HasCircuitFault, HasSomeCircuit, RefusesCircuit, RefusesSignals, IsTooMuch}
-use Rattle.cover_run.specs.Files.{IsTooLong, limit_of}
+use Rattle.cover_run.specs.Exporting.{IsTooManyGoals}
+use Rattle.cover_run.specs.Files.{IsTooLong, IsReadToEnd}
+use Rattle.wit_text.specs.WitnessText.{IsFirstFault as IsFirstInWitness}
+use Rattle.wit_text.specs.declared.witness.Witness.{Witness}
+use Rattle.cover_run.specs.Replaying.{IsMisfit}
 use Rattle.cover_run.specs.Seen.{DeskSeen, HasFaulted, Gave}
 use Rattle.cover_run.specs.Words.{Subject}
 
@@ -28,11 +32,11 @@ PartCause d file name (stops.TooLong f) = (f ≡ file) × IsTooLong d file name
 PartCause d file name stops.OutOfMemory = Unit {0}
 PartCause d file name stop = ⊥
 
--- one file was started, and given within its limit, and no fault was counted
+-- one file was started, and given within its limit and to its end, and no fault was counted
 pub record IsPartRead (d : DeskSeen) (file : File) (name : List ℕ) : Type 0 where
   pub given : ℕ
   pub gave : Gave d ((name, given) ∷ [])
-  pub within : given ≤ limit_of file
+  pub read : IsReadToEnd d (file, name) (name, given)
   pub no_fault : HasSameFaults d.old d.new
 
 -- why a circuit and its signals aren't read
@@ -50,6 +54,12 @@ SubjectCause s d stop = ⊥
 abbrev pub RoomCause : Options → Parts → Stop → Type 0
 RoomCause o c (stops.TooLarge m) = IsTooMuch o c m
 RoomCause o c stop = ⊥
+
+-- why there is no goal circuit
+abbrev pub GoalsCause : Parts → List ℕ → Stop → Type 0
+GoalsCause c sig (stops.TooLarge measures.Goals) = IsTooManyGoals c sig
+GoalsCause c sig stops.OutOfMemory = Unit {0}
+GoalsCause c sig stop = ⊥
 
 -- why the bytes of a circuit, and those of its signals, are refused
 abbrev pub CircuitCause : List ℕ → Stop → Type 0
@@ -73,6 +83,17 @@ abbrev pub ProofCause : List ℕ → Stop → Type 0
 ProofCause bytes (stops.Refused (refusals.Proof line kind)) = IsFirstInProof bytes line kind
 ProofCause bytes stops.OutOfMemory = Unit {0}
 ProofCause bytes stop = ⊥
+
+-- why the bytes of a witness are refused, and why its trace isn't accepted
+abbrev pub WitnessCause : Parts → List ℕ → Stop → Type 0
+WitnessCause c bytes (stops.Refused (refusals.Witness at kind)) = IsFirstInWitness (length c.latches) (length c.inputs) bytes at kind
+WitnessCause c bytes stops.OutOfMemory = Unit {0}
+WitnessCause c bytes stop = ⊥
+
+abbrev pub MisfitCause : Parts → List ℕ → Witness → Stop → Type 0
+MisfitCause c sig w (stops.Refused (refusals.Trace misfit)) = IsMisfit c sig w misfit
+MisfitCause c sig w stops.OutOfMemory = Unit {0}
+MisfitCause c sig w stop = ⊥
 
 -- why a proof isn't accepted
 abbrev pub JudgeCause : CnfFormula → List LratStep → Stop → Type 0

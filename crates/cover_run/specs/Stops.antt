@@ -10,10 +10,14 @@ use Rattle.lrat_text.specs.declared.fault.LratKind.{LratKind}
 use Rattle.lrat_text.specs.declared.fault.LratKind.TheVariants as lrat
 use Rattle.lrat_check.specs.declared.fault.ProofKind.{ProofKind}
 use Rattle.lrat_check.specs.declared.fault.ProofKind.TheVariants as proof
+use Rattle.wit_text.specs.declared.fault.WitKind.{WitKind}
+use Rattle.wit_text.specs.declared.fault.WitKind.TheVariants as wit
 use Rattle.cover_run.specs.declared.stop.File.{File}
 use Rattle.cover_run.specs.declared.stop.File.TheVariants as files
 use Rattle.cover_run.specs.declared.stop.Measure.{Measure}
 use Rattle.cover_run.specs.declared.stop.Measure.TheVariants as measures
+use Rattle.cover_run.specs.declared.stop.Misfit.{Misfit}
+use Rattle.cover_run.specs.declared.stop.Misfit.TheVariants as misfits
 use Rattle.cover_run.specs.declared.stop.Refusal.{Refusal}
 use Rattle.cover_run.specs.declared.stop.Refusal.TheVariants as refusals
 use Rattle.cover_run.specs.declared.stop.Stop.{Stop}
@@ -40,11 +44,12 @@ abbrev pub is_late : Stop → Bool
 is_late stops.CannotWrite = true
 is_late stop = false
 
--- a stop while a file is read, as opposed to one that what was read, or what it asks for, is the cause of
-abbrev pub is_of_reading : Stop → Bool
-is_of_reading (stops.Unreadable f) = true
-is_of_reading (stops.TooLong f) = true
-is_of_reading stop = false
+-- a stop while a file is read or the output is written, as opposed to one that what was read, or what it asks for, is the cause of
+abbrev pub is_of_devices : Stop → Bool
+is_of_devices (stops.Unreadable f) = true
+is_of_devices (stops.TooLong f) = true
+is_of_devices stops.CannotWrite = true
+is_of_devices stop = false
 
 -- ---- words of the lines
 abbrev pub file_word : File → List ℕ
@@ -52,11 +57,13 @@ file_word files.Circuit = codes "circuit"
 file_word files.Signals = codes "signals"
 file_word files.Formula = codes "formula"
 file_word files.Proof = codes "proof"
+file_word files.Witness = codes "witness"
 
 abbrev pub measure_word : Measure → List ℕ
 measure_word measures.Formula = codes "formula"
 measure_word measures.Frames = codes "frames"
 measure_word measures.Walk = codes "walk"
+measure_word measures.Goals = codes "goals"
 
 -- the names of the kinds of fault
 abbrev pub aag_word : AagKind → List ℕ
@@ -93,6 +100,18 @@ lrat_word lrat.Number = codes "Number"
 lrat_word lrat.Form = codes "Form"
 lrat_word lrat.Truncated = codes "Truncated"
 
+abbrev pub wit_word : WitKind → List ℕ
+wit_word wit.Status = codes "Status"
+wit_word wit.Property = codes "Property"
+wit_word wit.Length = codes "Length"
+wit_word wit.NoRows = codes "NoRows"
+wit_word wit.Truncated = codes "Truncated"
+
+abbrev pub misfit_words : Misfit → List ℕ
+misfit_words (misfits.NotReset latch) = codes "NotReset " ++ decimal latch
+misfit_words (misfits.Constraint step) = codes "Constraint " ++ decimal step
+misfit_words misfits.Property = codes "Property"
+
 abbrev pub proof_words : ProofKind → List ℕ
 proof_words proof.OldId = codes "OldId"
 proof_words (proof.UnknownId id) = codes "UnknownId " ++ decimal id
@@ -117,6 +136,8 @@ abbrev pub refusal_line : Refusal → List ℕ
 refusal_line (refusals.Formula line kind) = placed_line (codes "ketch: refused: formula line ") line (dimacs_word kind)
 refusal_line (refusals.Proof line kind) = placed_line (codes "ketch: refused: proof line ") line (lrat_word kind)
 refusal_line (refusals.Step step kind) = placed_line (codes "ketch: refused: step ") step (proof_words kind)
+refusal_line (refusals.Witness at kind) = placed_line (codes "ketch: refused: witness at ") at (wit_word kind)
+refusal_line (refusals.Trace misfit) = word_line (codes "ketch: refused: trace: ") (misfit_words misfit)
 
 abbrev pub line_of : Stop → List ℕ
 line_of stops.Usage = codes "ketch: usage: ketch cover|check|goals|replay|lrat|make ..\n"

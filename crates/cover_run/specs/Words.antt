@@ -16,6 +16,11 @@ pub record CoverCall : Type 0 where
   pub options : Options
   pub workers : ℕ
 
+-- the files of `replay`
+pub record ReplayCall : Type 0 where
+  pub subject : Subject
+  pub witness : List ℕ
+
 -- the files of `lrat`
 pub record LratCall : Type 0 where
   pub formula : List ℕ
@@ -27,6 +32,8 @@ pub data Meaning : Type 0 where
   Help : Meaning
   Version : Meaning
   Cover : CoverCall → Meaning
+  Goals : Subject → Meaning
+  Replay : ReplayCall → Meaning
   Lrat : LratCall → Meaning
 
 abbrev pub texts : List (Vec ℕ) → List (List ℕ)
@@ -47,6 +54,19 @@ cover_of (circuit ∷ signals ∷ words) =
     if is_file_name circuit && is_file_name signals then cover_with (record { circuit = circuit; signals = signals }) (given_by words) else Usage
 cover_of words = Usage
 
+-- `CIRCUIT SIGNALS`, and nothing else
+abbrev pub goals_of : List (List ℕ) → Meaning
+goals_of (circuit ∷ signals ∷ []) = if is_file_name circuit && is_file_name signals then Goals (record { circuit = circuit; signals = signals }) else Usage
+goals_of words = Usage
+
+-- `CIRCUIT SIGNALS WITNESS`, and nothing else
+abbrev pub replay_of : List (List ℕ) → Meaning
+replay_of (circuit ∷ signals ∷ witness ∷ []) =
+    if is_file_name circuit && is_file_name signals && is_file_name witness
+    then Replay (record { subject = record { circuit = circuit; signals = signals }; witness = witness })
+    else Usage
+replay_of words = Usage
+
 -- `FORMULA PROOF`, and nothing else
 abbrev pub lrat_of : List (List ℕ) → Meaning
 lrat_of (formula ∷ proof ∷ []) = if is_file_name formula && is_file_name proof then Lrat (record { formula = formula; proof = proof }) else Usage
@@ -61,4 +81,8 @@ alone command (word ∷ words) = Usage
 abbrev pub meaning : List (List ℕ) → Meaning
 meaning [] = Usage
 meaning (command ∷ words) =
-    if bytes_eq command (codes "cover") then cover_of words else if bytes_eq command (codes "lrat") then lrat_of words else alone command words
+    if bytes_eq command (codes "cover") then cover_of words
+    else if bytes_eq command (codes "goals") then goals_of words
+    else if bytes_eq command (codes "replay") then replay_of words
+    else if bytes_eq command (codes "lrat") then lrat_of words
+    else alone command words

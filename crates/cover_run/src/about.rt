@@ -8,6 +8,8 @@ const VERSION: &str = "ketch 0.1.0\n";
 const HELP: &str = "Usage: ketch COMMAND ..
 
   cover CIRCUIT SIGNALS [OPTIONS]  find out which combinations of signals a circuit can show
+  goals CIRCUIT SIGNALS            print the circuit whose bad literals are the goals
+  replay CIRCUIT SIGNALS WITNESS   replay a witness from reset, and print the goal that it shows
   lrat FORMULA PROOF               check an LRAT proof that a DIMACS formula has no model
   --help                           print this text
   --version                        print the version
@@ -27,16 +29,16 @@ Options of cover, in any order, each with a number:
 
 Statuses:
 
-  0  every goal is settled, or the proof is accepted
+  0  every goal is settled, the circuit is printed, or the proof or witness is accepted
   1  some goal is open
-  2  the words mean nothing
+  2  an invalid command line
   3  a file cannot be read
   4  the circuit is not accepted
   5  the signals are not accepted
   6  a file or a number is past its limit
   7  the output cannot be written
   8  out of memory
-  9  the proof is not accepted
+  9  the proof or witness is not accepted
 ";
 
 pub(crate) fn help_text() -> &'static str

@@ -8,10 +8,10 @@ ghost use Rattle.lrat_text.specs.Accepted.{Accepted};
 ghost use Rattle.cover_run.specs.Answer.{EarlyCause};
 ghost use Rattle.cover_run.specs.Checking.{formula_stop, HasFormula, HasProof, IsLratOutput};
 ghost use Rattle.cover_run.specs.Commands.{lrat_call};
-ghost use Rattle.cover_run.specs.Files.{files_of, IsFine, HasRead};
+ghost use Rattle.cover_run.specs.Files.{files_of, IsAllRead, HasRead};
 ghost use Rattle.cover_run.specs.Seen.{seen};
 ghost use Rattle.cover_run.specs.Steps.{FormulaCause, ProofCause, JudgeCause};
-ghost use Rattle.cover_run.specs.Stops.{is_of_reading};
+ghost use Rattle.cover_run.specs.Stops.{is_of_devices};
 ghost use Rattle.cover_run.specs.Words.{Lrat as LratMeaning};
 
 use crate::command::Lrat;
@@ -28,7 +28,7 @@ use text_words::lines_at_most_bytes;
 
 fn formula_stop(line: u32, kind: DimacsKind) -> Stop
     ensures stop { result ≡ formula_stop line kind }
-    ensures read { is_of_reading result ≡ false }
+    ensures read { is_of_devices result ≡ false }
 {
     match kind {
         DimacsKind::Limit => Stop::TooLarge(Measure::Formula),
@@ -41,7 +41,7 @@ fn formula_of(alloc: Global, bytes: &[u8]) -> Result<Formula, Stop>
     requires { length bytes.now ≤ 268435456 }
     ensures formula { IfOk result (SpellsFormula bytes.now) }
     ensures cause { IfErr result (FormulaCause bytes.now) }
-    ensures read { IfErr result (λ stop. is_of_reading stop ≡ false) }
+    ensures read { IfErr result (λ stop. is_of_devices stop ≡ false) }
 {
     lines_at_most_bytes(bytes);
     match read_dimacs(alloc, bytes) {
@@ -55,7 +55,7 @@ fn proof_of(alloc: Global, bytes: &[u8]) -> Result<Proof, Stop>
     requires { length bytes.now ≤ 268435456 }
     ensures proof { IfOk result (SpellsProof bytes.now) }
     ensures cause { IfErr result (ProofCause bytes.now) }
-    ensures read { IfErr result (λ stop. is_of_reading stop ≡ false) }
+    ensures read { IfErr result (λ stop. is_of_devices stop ≡ false) }
 {
     lines_at_most_bytes(bytes);
     match read_lrat(alloc, bytes) {
@@ -75,7 +75,7 @@ fn read_both<D: Desk>(
     ensures formula { IfOk result (λ both. HasFormula (lrat_call call.now) (seen (D.state desk.old) (D.state desk.new)) both.0) }
     ensures proof { IfOk result (λ both. HasProof (lrat_call call.now) (seen (D.state desk.old) (D.state desk.new)) both.1) }
     ensures cause { IfErr result (EarlyCause (LratMeaning (lrat_call call.now)) (seen (D.state desk.old) (D.state desk.new))) }
-    ensures read { OnOk result (IsFine (files_of (LratMeaning (lrat_call call.now))) (seen (D.state desk.old) (D.state desk.new))) }
+    ensures read { OnOk result (IsAllRead (files_of (LratMeaning (lrat_call call.now))) (seen (D.state desk.old) (D.state desk.new))) }
     ensures left { IfErr result (HasRead (files_of (LratMeaning (lrat_call call.now))) (seen (D.state desk.old) (D.state desk.new))) }
 {
     let formula = {
@@ -101,7 +101,7 @@ fn accepted(alloc: Global) -> Result<Output, OutOfMemory>
 fn judge(alloc: Global, formula: &Formula, proof: &Proof) -> Result<(), Stop>
     ensures accepted { OnOk result (Accepted formula.now proof.now) }
     ensures cause { IfErr result (JudgeCause formula.now proof.now) }
-    ensures read { IfErr result (λ stop. is_of_reading stop ≡ false) }
+    ensures read { IfErr result (λ stop. is_of_devices stop ≡ false) }
 {
     match check_proof(alloc, formula, proof) {
         Ok(()) => Ok(()),
@@ -116,7 +116,7 @@ pub(crate) fn check<D: Desk>(alloc: Global, desk: &mut D, call: &Lrat<'_>) -> Re
     ensures output { IfOk result (λ output.
         IsLratOutput (lrat_call call.now) (seen (D.state desk.old) (D.state desk.new)) output.bytes.items output.settled) }
     ensures cause { IfErr result (EarlyCause (LratMeaning (lrat_call call.now)) (seen (D.state desk.old) (D.state desk.new))) }
-    ensures read { OnOk result (IsFine (files_of (LratMeaning (lrat_call call.now))) (seen (D.state desk.old) (D.state desk.new))) }
+    ensures read { OnOk result (IsAllRead (files_of (LratMeaning (lrat_call call.now))) (seen (D.state desk.old) (D.state desk.new))) }
     ensures left { IfErr result (HasRead (files_of (LratMeaning (lrat_call call.now))) (seen (D.state desk.old) (D.state desk.new))) }
 {
     let (formula, proof) = read_both(alloc, desk, call)?;

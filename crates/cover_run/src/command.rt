@@ -2,7 +2,7 @@
 
 ghost use Rattle.std.specs.Prelude.{◌≡◌};
 ghost use Rattle.cover_run.specs.Settings.{given_by};
-ghost use Rattle.cover_run.specs.Words.{meaning, alone, cover_of, cover_with, lrat_of, texts, is_file_name};
+ghost use Rattle.cover_run.specs.Words.{meaning, alone, cover_of, cover_with, goals_of, replay_of, lrat_of, texts, is_file_name};
 ghost use Rattle.cover_run.specs.Commands.{subject_named, meaning_of};
 
 use crate::settings::{given_by, options_of, workers_of};
@@ -23,6 +23,13 @@ pub(crate) struct Cover<'a> {
     pub workers: u32,
 }
 
+/// The files of `replay`.
+#[derive(Clone, Copy, Debug)]
+pub(crate) struct Replay<'a> {
+    pub subject: Subject<'a>,
+    pub witness: &'a [u8],
+}
+
 /// The files of `lrat`.
 #[derive(Clone, Copy, Debug)]
 pub(crate) struct Lrat<'a> {
@@ -37,6 +44,8 @@ pub(crate) enum Command<'a> {
     Help,
     Version,
     Cover(Cover<'a>),
+    Goals(Subject<'a>),
+    Replay(Replay<'a>),
     Lrat(Lrat<'a>),
 }
 
@@ -68,6 +77,31 @@ fn cover_of(words: &[Vec<u8>]) -> Command<'_>
     if let [circuit, signals, rest @ ..] = words {
         if is_file_name(circuit) && is_file_name(signals) {
             return cover_with(Subject { circuit, signals }, rest);
+        }
+    }
+    Command::Usage
+}
+
+fn goals_of(words: &[Vec<u8>]) -> Command<'_>
+    ensures { meaning_of result ≡ goals_of (texts words.now) }
+{
+    if let [circuit, signals] = words {
+        if is_file_name(circuit) && is_file_name(signals) {
+            return Command::Goals(Subject { circuit, signals });
+        }
+    }
+    Command::Usage
+}
+
+fn replay_of(words: &[Vec<u8>]) -> Command<'_>
+    ensures { meaning_of result ≡ replay_of (texts words.now) }
+{
+    if let [circuit, signals, witness] = words {
+        if is_file_name(circuit) && is_file_name(signals) && is_file_name(witness) {
+            return Command::Replay(Replay {
+                subject: Subject { circuit, signals },
+                witness: witness.as_slice(),
+            });
         }
     }
     Command::Usage
@@ -106,6 +140,10 @@ pub(crate) fn command_of(words: &[Vec<u8>]) -> Command<'_>
     };
     if command.as_slice() == b"cover".as_slice() {
         cover_of(rest)
+    } else if command.as_slice() == b"goals".as_slice() {
+        goals_of(rest)
+    } else if command.as_slice() == b"replay".as_slice() {
+        replay_of(rest)
     } else if command.as_slice() == b"lrat".as_slice() {
         lrat_of(rest)
     } else {

@@ -2,16 +2,14 @@
 
 ghost use Rattle.std.specs.Prelude.{◌≡◌, false, IfOk, IfErr, OnOk, nat_eq};
 ghost use Rattle.run_io.specs.Desk.{HasSameTexts};
-ghost use Rattle.aig_model.specs.SignalList.{IsSignals};
-ghost use Rattle.aig_model.specs.WellFormed.{IsCircuit};
 ghost use Rattle.cover_run.specs.Answer.{EarlyCause};
 ghost use Rattle.cover_run.specs.Commands.{cover_call};
 ghost use Rattle.cover_run.specs.Covering.{HasRoom, IsCoverOutput};
-ghost use Rattle.cover_run.specs.Files.{files_of, IsFine, HasRead};
+ghost use Rattle.cover_run.specs.Files.{files_of, IsAllRead, HasRead};
 ghost use Rattle.cover_run.specs.Report.{IsReport};
 ghost use Rattle.cover_run.specs.Seen.{seen};
 ghost use Rattle.cover_run.specs.Steps.{RoomCause};
-ghost use Rattle.cover_run.specs.Stops.{is_of_reading};
+ghost use Rattle.cover_run.specs.Stops.{is_of_devices};
 ghost use Rattle.cover_run.specs.Words.{Cover as CoverMeaning};
 
 use crate::command::Cover;
@@ -28,10 +26,9 @@ use std::alloc::Global;
 
 /// Whether the searches and walks that are asked for are within their limits.
 fn has_room(circuit: &Circuit, options: &Options) -> Result<(), Stop>
-    ensures circuit { IsCircuit circuit.now }
     ensures room { OnOk result (HasRoom options.now circuit.now) }
     ensures cause { IfErr result (RoomCause options.now circuit.now) }
-    ensures read { IfErr result (λ stop. is_of_reading stop ≡ false) }
+    ensures read { IfErr result (λ stop. is_of_devices stop ≡ false) }
 {
     let steps = u64::from(options.depth.max(options.hop)) + 1;
     if steps.saturating_mul(u64::from(circuit.top()) + 1) > 4_000_000 {
@@ -52,10 +49,8 @@ fn report_of(
     options: &Options,
 ) -> Result<Output, OutOfMemory>
     requires { signals.now.circuit ≡ circuit.now }
-    ensures signals { IsSignals circuit.now signals.now.lits }
     ensures report { IfOk result (λ output. (report : IsReport circuit.now signals.now.lits options.now output.bytes.items) × (output.settled ≡ nat_eq report.report.unsettled 0)) }
 {
-    let _lits = signals.lits();
     let visits = zero_walk(alloc, circuit, signals, options)?;
     let report = compose(alloc, circuit, signals, options, &visits)?;
     let bytes = text_of(alloc, &report)?;
@@ -71,7 +66,7 @@ pub(crate) fn cover<D: Desk>(alloc: Global, desk: &mut D, call: &Cover<'_>) -> R
     ensures output { IfOk result (λ output.
         IsCoverOutput (cover_call call.now) (seen (D.state desk.old) (D.state desk.new)) output.bytes.items output.settled) }
     ensures cause { IfErr result (EarlyCause (CoverMeaning (cover_call call.now)) (seen (D.state desk.old) (D.state desk.new))) }
-    ensures read { OnOk result (IsFine (files_of (CoverMeaning (cover_call call.now))) (seen (D.state desk.old) (D.state desk.new))) }
+    ensures read { OnOk result (IsAllRead (files_of (CoverMeaning (cover_call call.now))) (seen (D.state desk.old) (D.state desk.new))) }
     ensures left { IfErr result (HasRead (files_of (CoverMeaning (cover_call call.now))) (seen (D.state desk.old) (D.state desk.new))) }
 {
     let (circuit, signals) = read_subject(alloc, desk, &call.subject)?;

@@ -1,9 +1,9 @@
 //! The lines on the error stream. They take no memory.
 
 ghost use Rattle.std.specs.Prelude.{◌≡◌, ◌+◌, ◌<◌, ◌≤◌, ◌++◌, length, codes, decimal};
-ghost use Rattle.cover_run.specs.Stops.{file_word, measure_word, aag_word, sig_word, dimacs_word, lrat_word, proof_words, word_line, placed_text, placed_line, refusal_line, line_of};
+ghost use Rattle.cover_run.specs.Stops.{file_word, measure_word, aag_word, sig_word, dimacs_word, lrat_word, wit_word, misfit_words, proof_words, word_line, placed_text, placed_line, refusal_line, line_of};
 
-use crate::stop::{File, Measure, Refusal, Stop};
+use crate::stop::{File, Measure, Misfit, Refusal, Stop};
 use aig_ascii::AagKind;
 use arrayvec::ArrayString;
 use cnf_base::DimacsKind;
@@ -11,6 +11,7 @@ use itoa::Buffer;
 use lrat_check::ProofKind;
 use lrat_text::LratKind;
 use signal_list::SigKind;
+use wit_text::WitKind;
 
 /// A line, with room for the longest: two numbers of twenty digits and their words.
 pub(crate) type Line = ArrayString<96>;
@@ -24,6 +25,7 @@ fn file_word(file: File) -> &'static str
         File::Signals => "signals",
         File::Formula => "formula",
         File::Proof => "proof",
+        File::Witness => "witness",
     }
 }
 
@@ -35,6 +37,7 @@ fn measure_word(measure: Measure) -> &'static str
         Measure::Formula => "formula",
         Measure::Frames => "frames",
         Measure::Walk => "walk",
+        Measure::Goals => "goals",
     }
 }
 
@@ -93,6 +96,19 @@ fn sig_word(kind: SigKind) -> &'static str
         SigKind::Repeated => "Repeated",
         SigKind::TooMany => "TooMany",
         SigKind::Empty => "Empty",
+    }
+}
+
+fn wit_word(kind: WitKind) -> &'static str
+    ensures word { result.now ≡ wit_word kind }
+    ensures short { length result.now ≤ 20 }
+{
+    match kind {
+        WitKind::Status => "Status",
+        WitKind::Property => "Property",
+        WitKind::Length => "Length",
+        WitKind::NoRows => "NoRows",
+        WitKind::Truncated => "Truncated",
     }
 }
 
@@ -185,6 +201,27 @@ fn step_line(step: u64, kind: ProofKind) -> Line
     line
 }
 
+fn push_misfit(line: &mut Line, misfit: Misfit)
+    requires { length line.old.bytes ≤ 56 }
+    ensures bytes { line.new.bytes ≡ line.old.bytes ++ misfit_words misfit }
+    ensures short { length line.new.bytes ≤ 91 }
+{
+    match misfit {
+        Misfit::NotReset { latch } => push_id(line, "NotReset ", latch.into()),
+        Misfit::Constraint { step } => push_id(line, "Constraint ", step.into()),
+        Misfit::Property => line.push_str("Property"),
+    }
+}
+
+fn trace_line(misfit: Misfit) -> Line
+    ensures { result.bytes ≡ word_line (codes "ketch: refused: trace: ") (misfit_words misfit) }
+{
+    let mut line = line_from("ketch: refused: trace: ");
+    push_misfit(&mut line, misfit);
+    line.push_str("\n");
+    line
+}
+
 fn refusal_line(why: Refusal) -> Line
     ensures { result.bytes ≡ refusal_line why }
 {
@@ -198,6 +235,10 @@ fn refusal_line(why: Refusal) -> Line
             placed_line("ketch: refused: proof line ", line.into(), lrat_word(kind))
         }
         Refusal::Step { step, kind } => step_line(step, kind),
+        Refusal::Witness { at, kind } => {
+            placed_line("ketch: refused: witness at ", at, wit_word(kind))
+        }
+        Refusal::Trace(misfit) => trace_line(misfit),
     }
 }
 

@@ -2,7 +2,7 @@
 
 ghost use Rattle.std.specs.Prelude.{◌≡◌, ◌≤◌, [], ◌∷◌, IfOk, IfErr, IfSome, OnOk, length};
 ghost use Rattle.run_io.specs.Desk.{HasSameTexts, CountsFaults};
-ghost use Rattle.cover_run.specs.Files.{IsFine, HasRead, limit_of};
+ghost use Rattle.cover_run.specs.Files.{HasRead, limit_of};
 ghost use Rattle.cover_run.specs.Seen.{seen};
 ghost use Rattle.cover_run.specs.Steps.{PartCause, IsPartRead};
 

@@ -4,8 +4,8 @@ ghost use Rattle.std.specs.Prelude.{◌≡◌, ◌↔◌, IfOk, IfErr, OnOk, tru
 ghost use Rattle.run_io.specs.Desk.{HasSameTexts};
 ghost use Rattle.cover_run.specs.Answer.{EarlyCause, IsOutput, IsAnswer, IsStopped, IsWhole};
 ghost use Rattle.cover_run.specs.Commands.{meaning_of};
-ghost use Rattle.cover_run.specs.Files.{files_of, IsFine, HasRead};
-ghost use Rattle.cover_run.specs.Promises.{WrittenCause, Headline, Completeness, AcceptedCause, AcceptedComes, PrintedCause, PrintedComes, HasEnded, IsEarly, ReadFaultCause, NoFault, BadCircuitCause, BadCircuitComes, BadSignalsCause, BadSignalsComes, LimitCause, WithinLimits, TooMuchComes, LongCircuitComes, LongSignalsComes, LongFormulaComes, LongProofComes, RefusedCause, BadFormulaComes, BadProofComes, BadStepComes, PrefixAfterFault, SaysLine};
+ghost use Rattle.cover_run.specs.Files.{files_of, IsAllRead, HasRead};
+ghost use Rattle.cover_run.specs.Promises.{WrittenCause, Headline, Completeness, AcceptedCause, AcceptedComes, PrintedCause, PrintedComes, HasEnded, IsEarly, ReadFaultCause, NoFault, BadCircuitCause, BadCircuitComes, BadSignalsCause, BadSignalsComes, LimitCause, WithinLimits, AllRead, TooMuchComes, ExportedCause, ExportedComes, ManyGoalsComes, ReplayedCause, ReplayedComes, LongWitnessComes, BadWitnessComes, MisfitComes, LongCircuitComes, LongSignalsComes, LongFormulaComes, LongProofComes, RefusedCause, BadFormulaComes, BadProofComes, BadStepComes, PrefixAfterFault, SaysLine};
 ghost use Rattle.cover_run.specs.Seen.{seen, Failed, TookWhatItCould};
 ghost use Rattle.cover_run.specs.Stops.{is_late};
 ghost use Rattle.cover_run.specs.Words.{meaning, texts, Usage};
@@ -14,9 +14,11 @@ use crate::about::{help_text, version_text};
 use crate::checking::check;
 use crate::command::{Command, command_of};
 use crate::covering::cover;
+use crate::exporting::export;
 use crate::gate::Gate;
 use crate::line::line_of;
 use crate::output::Output;
+use crate::replaying::replayed;
 use crate::stop::{Status, Stop, settled_status, status_of};
 use run_io::{Desk, Sink, write_all};
 use std::alloc::Global;
@@ -43,7 +45,7 @@ fn output_of<D: Desk>(alloc: Global, command: &Command<'_>, desk: &mut D) -> Res
     ensures text { HasSameTexts (D.state desk.old) (D.state desk.new) }
     ensures output { IfOk result (λ output. IsOutput (meaning_of command.now) (seen (D.state desk.old) (D.state desk.new)) output.bytes.items output.settled) }
     ensures cause { IfErr result (EarlyCause (meaning_of command.now) (seen (D.state desk.old) (D.state desk.new))) }
-    ensures read { OnOk result (IsFine (files_of (meaning_of command.now)) (seen (D.state desk.old) (D.state desk.new))) }
+    ensures read { OnOk result (IsAllRead (files_of (meaning_of command.now)) (seen (D.state desk.old) (D.state desk.new))) }
     ensures left { IfErr result (HasRead (files_of (meaning_of command.now)) (seen (D.state desk.old) (D.state desk.new))) }
     ensures not_called { meaning_of command.now ≡ Usage → desk.new ≡ desk.old }
 {
@@ -52,6 +54,8 @@ fn output_of<D: Desk>(alloc: Global, command: &Command<'_>, desk: &mut D) -> Res
         Command::Help => printed(alloc, help_text()),
         Command::Version => printed(alloc, version_text()),
         Command::Cover(call) => cover(alloc, desk, call),
+        Command::Goals(subject) => export(alloc, desk, subject),
+        Command::Replay(call) => replayed(alloc, desk, call),
         Command::Lrat(call) => check(alloc, desk, call),
     }
 }
@@ -141,6 +145,7 @@ pub fn run<R: Threads + Sync, D: Desk, O: Sink, E: Sink, G: Gate>(
     ensures no_fault { NoFault (seen (D.state desk.old) (D.state desk.new)) result }
     ensures limit { LimitCause (meaning (texts words.now)) (seen (D.state desk.old) (D.state desk.new)) (seen (E.state err.old) (E.state err.new)) result }
     ensures within_limits { WithinLimits (meaning (texts words.now)) (seen (D.state desk.old) (D.state desk.new)) result }
+    ensures all_read { AllRead (meaning (texts words.now)) (seen (D.state desk.old) (D.state desk.new)) result }
     ensures write_fault { result ≡ Status.WriteFault → Failed (seen (O.state out.old) (O.state out.new)) }
 
     // Of commands that read a circuit and signals.
@@ -152,7 +157,19 @@ pub fn run<R: Threads + Sync, D: Desk, O: Sink, E: Sink, G: Gate>(
     ensures long_signals_comes { LongSignalsComes (meaning (texts words.now)) (seen (D.state desk.old) (D.state desk.new)) (seen (E.state err.old) (E.state err.new)) result }
     ensures too_much_comes { TooMuchComes (meaning (texts words.now)) (seen (D.state desk.old) (D.state desk.new)) (seen (E.state err.old) (E.state err.new)) result }
 
-    // Of commands that refuse a proof.
+    // Of the command that prints the goal circuit.
+    ensures exported { ExportedCause (meaning (texts words.now)) (seen (D.state desk.old) (D.state desk.new)) (seen (O.state out.old) (O.state out.new)) result }
+    ensures exported_comes { ExportedComes (meaning (texts words.now)) (seen (D.state desk.old) (D.state desk.new)) (seen (O.state out.old) (O.state out.new)) result }
+    ensures many_goals_comes { ManyGoalsComes (meaning (texts words.now)) (seen (D.state desk.old) (D.state desk.new)) (seen (E.state err.old) (E.state err.new)) result }
+
+    // Of the command that replays a witness.
+    ensures replayed { ReplayedCause (meaning (texts words.now)) (seen (D.state desk.old) (D.state desk.new)) (seen (O.state out.old) (O.state out.new)) result }
+    ensures replayed_comes { ReplayedComes (meaning (texts words.now)) (seen (D.state desk.old) (D.state desk.new)) (seen (O.state out.old) (O.state out.new)) result }
+    ensures long_witness_comes { LongWitnessComes (meaning (texts words.now)) (seen (D.state desk.old) (D.state desk.new)) (seen (E.state err.old) (E.state err.new)) result }
+    ensures bad_witness_comes { BadWitnessComes (meaning (texts words.now)) (seen (D.state desk.old) (D.state desk.new)) (seen (E.state err.old) (E.state err.new)) result }
+    ensures misfit_comes { MisfitComes (meaning (texts words.now)) (seen (D.state desk.old) (D.state desk.new)) (seen (E.state err.old) (E.state err.new)) result }
+
+    // Of commands that refuse a proof or a witness.
     ensures refused { RefusedCause (meaning (texts words.now)) (seen (D.state desk.old) (D.state desk.new)) (seen (E.state err.old) (E.state err.new)) result }
     ensures bad_formula_comes { BadFormulaComes (meaning (texts words.now)) (seen (D.state desk.old) (D.state desk.new)) (seen (E.state err.old) (E.state err.new)) result }
     ensures long_formula_comes { LongFormulaComes (meaning (texts words.now)) (seen (D.state desk.old) (D.state desk.new)) (seen (E.state err.old) (E.state err.new)) result }

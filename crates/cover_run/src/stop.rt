@@ -10,6 +10,7 @@ use ketch_base::OutOfMemory;
 use lrat_check::ProofKind;
 use lrat_text::LratKind;
 use signal_list::SigKind;
+use wit_text::WitKind;
 
 /// A file that a command reads.
 #[derive(Clone, Copy, Debug, PartialEq, Eq)]
@@ -18,6 +19,7 @@ pub enum File {
     Signals,
     Formula,
     Proof,
+    Witness,
 }
 
 /// A number of the input that has a limit.
@@ -29,14 +31,29 @@ pub enum Measure {
     Frames,
     /// The truth values of a walk's inputs and its steps.
     Walk,
+    /// The variables of the goal circuit.
+    Goals,
 }
 
-/// What is wrong first with a proof that isn't accepted. Lines and steps count from 1.
+/// What is wrong first with a trace that doesn't show its property. Latches and steps count from 0.
+#[derive(Clone, Copy, Debug, PartialEq, Eq)]
+pub enum Misfit {
+    /// The latch starts at another value than its reset.
+    NotReset { latch: u32 },
+    /// A constraint is false at the step.
+    Constraint { step: u32 },
+    /// The last step shows another goal.
+    Property,
+}
+
+/// What is wrong first with a proof or a witness that isn't accepted. Lines and a proof's steps count from 1, bytes from 0.
 #[derive(Clone, Copy, Debug, PartialEq, Eq)]
 pub enum Refusal {
     Formula { line: u32, kind: DimacsKind },
     Proof { line: u32, kind: LratKind },
     Step { step: u64, kind: ProofKind },
+    Witness { at: u64, kind: WitKind },
+    Trace(Misfit),
 }
 
 /// What stops a run before its output is whole.
@@ -85,7 +102,7 @@ pub(crate) fn limit_of(file: File) -> u64
     ensures { result ≡ limit_of file }
 {
     match file {
-        File::Circuit => 67_108_864,
+        File::Circuit | File::Witness => 67_108_864,
         File::Signals => 65_536,
         File::Formula | File::Proof => 268_435_456,
     }

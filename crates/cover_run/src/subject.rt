@@ -6,10 +6,10 @@ ghost use Rattle.aig_ascii.specs.Aag.{SpellsCircuit};
 ghost use Rattle.signal_list.specs.SignalText.{SpellsSignals};
 ghost use Rattle.cover_run.specs.Commands.{subject_named};
 ghost use Rattle.cover_run.specs.Covering.{HasCircuit, HasSignals};
-ghost use Rattle.cover_run.specs.Files.{subject_files, IsFine, HasRead};
+ghost use Rattle.cover_run.specs.Files.{subject_files, IsAllRead, HasRead};
 ghost use Rattle.cover_run.specs.Seen.{seen};
 ghost use Rattle.cover_run.specs.Steps.{CircuitCause, SignalsCause, SubjectCause};
-ghost use Rattle.cover_run.specs.Stops.{is_of_reading};
+ghost use Rattle.cover_run.specs.Stops.{is_of_devices};
 
 use crate::command::Subject;
 use crate::part::read_part;
@@ -25,7 +25,7 @@ fn circuit_of(alloc: Global, bytes: &[u8]) -> Result<Circuit, Stop>
     requires { length bytes.now ≤ 67108864 }
     ensures circuit { IfOk result (SpellsCircuit bytes.now) }
     ensures cause { IfErr result (CircuitCause bytes.now) }
-    ensures read { IfErr result (λ stop. is_of_reading stop ≡ false) }
+    ensures read { IfErr result (λ stop. is_of_devices stop ≡ false) }
 {
     match read_aag(alloc, bytes) {
         Ok(circuit) => Ok(circuit),
@@ -39,7 +39,7 @@ fn signals_of(alloc: Global, bytes: &[u8], circuit: &Circuit) -> Result<Signals,
     ensures same { IfOk result (λ signals. signals.circuit ≡ circuit.now) }
     ensures signals { IfOk result (λ signals. SpellsSignals circuit.now bytes.now signals.lits) }
     ensures cause { IfErr result (SignalsCause circuit.now bytes.now) }
-    ensures read { IfErr result (λ stop. is_of_reading stop ≡ false) }
+    ensures read { IfErr result (λ stop. is_of_devices stop ≡ false) }
 {
     lines_at_most_bytes(bytes);
     match read_signals(alloc, bytes, circuit) {
@@ -60,7 +60,7 @@ pub(crate) fn read_subject<D: Desk>(
     ensures circuit { IfOk result (λ both. HasCircuit (subject_named subject.now) (seen (D.state desk.old) (D.state desk.new)) both.0) }
     ensures signals { IfOk result (λ both. HasSignals (subject_named subject.now) (seen (D.state desk.old) (D.state desk.new)) both.0 both.1.lits) }
     ensures cause { IfErr result (SubjectCause (subject_named subject.now) (seen (D.state desk.old) (D.state desk.new))) }
-    ensures read { OnOk result (IsFine (subject_files (subject_named subject.now)) (seen (D.state desk.old) (D.state desk.new))) }
+    ensures read { OnOk result (IsAllRead (subject_files (subject_named subject.now)) (seen (D.state desk.old) (D.state desk.new))) }
     ensures left { IfErr result (HasRead (subject_files (subject_named subject.now)) (seen (D.state desk.old) (D.state desk.new))) }
 {
     let circuit = {

@@ -8,7 +8,11 @@ pub use setting::{Outcome, Setting};
 #[cfg(test)]
 mod devices;
 #[cfg(test)]
+mod goals_rows;
+#[cfg(test)]
 mod lrat_rows;
+#[cfg(test)]
+mod replay_rows;
 #[cfg(test)]
 mod rows;
 #[cfg(test)]

@@ -7,12 +7,13 @@ use std::alloc::{AllocError, Global};
 use std::marker::Sync;
 use std::thread::Threads;
 
-/// The words of a run, the files `a` and `b`, and which calls of its devices fail, counted from 1.
+/// The words of a run, the files `a`, `b` and `c`, and which calls of its devices fail, counted from 1.
 #[derive(Drop)]
 pub struct Setting<'a> {
     pub words: &'a [&'a [u8]],
     pub first: &'a [u8],
     pub second: &'a [u8],
+    pub third: &'a [u8],
     pub desk_fails: Option<u64>,
     pub sink_fails: Option<u64>,
     /// How many bytes a write takes at most.
@@ -51,12 +52,13 @@ fn file(alloc: Global, name: &[u8], bytes: &[u8]) -> Result<FileText, AllocError
 }
 
 impl<'a> Setting<'a> {
-    /// These words over these two files, with devices that don't fail.
+    /// These words over these two files and an empty third, with devices that don't fail.
     pub fn new(words: &'a [&'a [u8]], first: &'a [u8], second: &'a [u8]) -> Setting<'a> {
         Setting {
             words,
             first,
             second,
+            third: b"",
             desk_fails: None,
             sink_fails: None,
             most: ROOM,
@@ -67,15 +69,26 @@ impl<'a> Setting<'a> {
         Setting::new(&[b"cover", b"a", b"b"], circuit, signals)
     }
 
+    pub fn goals(circuit: &'a [u8], signals: &'a [u8]) -> Setting<'a> {
+        Setting::new(&[b"goals", b"a", b"b"], circuit, signals)
+    }
+
+    pub fn replay(circuit: &'a [u8], signals: &'a [u8], witness: &'a [u8]) -> Setting<'a> {
+        let mut setting = Setting::new(&[b"replay", b"a", b"b", b"c"], circuit, signals);
+        setting.third = witness;
+        setting
+    }
+
     pub fn lrat(formula: &'a [u8], proof: &'a [u8]) -> Setting<'a> {
         Setting::new(&[b"lrat", b"a", b"b"], formula, proof)
     }
 
-    /// Runs over the two files.
+    /// Runs over the three files.
     pub fn run<R: Threads + Sync>(&self, rt: &R, alloc: Global) -> Result<Outcome, OutOfMemory> {
         let files = vec![in alloc;
             file(alloc, b"a", self.first)?,
             file(alloc, b"b", self.second)?,
+            file(alloc, b"c", self.third)?,
         ]?;
         let mut desk = MemoryDesk::new(alloc, files, listed(alloc, self.desk_fails)?)?;
         let mut out = MemorySink::new(alloc, ROOM, self.most, listed(alloc, self.sink_fails)?)?;

@@ -20,6 +20,14 @@ const NO_COMMANDS: &[Words] = &[
     &[b"cover", b"a", b"-b"],
     &[b"cover", b"a", b"b", b"c"],
     &[b"hover", b"a", b"b"],
+    &[b"goals"],
+    &[b"goals", b"a"],
+    &[b"goals", b"a", b"-b"],
+    &[b"goals", b"a", b"b", b"c"],
+    &[b"goals", b"a", b"b", b"--hop", b"4"],
+    &[b"replay", b"a", b"b"],
+    &[b"replay", b"a", b"b", b"-c"],
+    &[b"replay", b"a", b"b", b"c", b"d"],
     &[b"lrat"],
     &[b"lrat", b"a"],
     &[b"lrat", b"", b"b"],
@@ -31,7 +39,7 @@ const NO_COMMANDS: &[Words] = &[
     &[b"check", b"a", b"b", b"c"],
 ];
 
-/// Options that mean nothing.
+/// Invalid options.
 const NO_OPTIONS: &[Words] = &[
     &[b"cover", b"a", b"b", b"--depth", b"1"],
     &[b"cover", b"a", b"b", b"--batches", b"1"],

@@ -5,7 +5,7 @@ use Rattle.cover_run.specs.Commands.{lrat_call}
 use Rattle.cover_run.specs.Files.{files_of}
 use Rattle.cover_run.specs.Seen.{seen}
 use Rattle.cover_run.specs.Words.{Lrat}
-use Rattle.cover_run.proofs.Reading.{fine_first, fine_after, read_after, read_more, read_then, part_unread, formula_refused}
+use Rattle.cover_run.proofs.Reading.{fine_first, fine_after, all_one, all_after, read_after, read_more, read_then, part_unread, formula_refused}
 use Rattle.cover_run.proofs.checking.read_both.Goals as goal
 
 pub returns-in_err-bytes-clause-cause : goal.returns-in_err-bytes-clause-cause
@@ -18,7 +18,8 @@ pub returns-in_err-bytes-clause-left : goal.returns-in_err-bytes-clause-left
 returns-in_err-bytes-clause-left g c =
     let p = err_from_is_err_and c.from_residual.result c.from_residual.ensures.1 in
     rw (p.1, p.2) (read_more (seen (g.D.Desk.state c.args.desk.now) (g.D.Desk.state c.read_part.new.desk)) (files.Formula, c.args.call.now.formula.now)
-    ((files.Proof, c.args.call.now.proof.now) ∷ []) c.in_err-bytes.field-0.0 c.in_err-bytes.ensures.left)
+    ((files.Proof, c.args.call.now.proof.now) ∷ []) c.in_err-bytes.field-0.0 c.in_err-bytes.ensures.cause
+    c.in_err-bytes.ensures.left)
 
 pub returns-in_err-formula-clause-cause : goal.returns-in_err-formula-clause-cause
 returns-in_err-formula-clause-cause g c =
@@ -41,7 +42,7 @@ returns-in_err-bytes-2-clause-left g c =
     let b = g.D.Desk.state c.read_part.new.desk in
     let e = g.D.Desk.state c.read_part-2.new.desk in
     rw (p.1, p.2) (read_after a b e files.Formula c.args.call.now.formula.now ((files.Proof, c.args.call.now.proof.now) ∷ []) c.in_err-bytes-2.field-0.0
-    c.in_ok-bytes.ensures.read c.in_err-bytes-2.ensures.left)
+    c.read_part.ensures.text c.in_ok-bytes.ensures.read c.in_err-bytes-2.ensures.left)
 
 pub returns-in_err-proof-clause-left : goal.returns-in_err-proof-clause-left
 returns-in_err-proof-clause-left g c =
@@ -58,5 +59,5 @@ returns-clause-read g c =
     let a = g.D.Desk.state c.args.desk.now in
     let b = g.D.Desk.state c.read_part.new.desk in
     let e = g.D.Desk.state c.read_part-2.new.desk in
-    fine_after a b e files.Formula c.args.call.now.formula.now ((files.Proof, c.args.call.now.proof.now) ∷ []) c.in_ok-bytes.ensures.read
-    (fine_first b e files.Proof c.args.call.now.proof.now [] c.in_ok-bytes-2.ensures.read)
+    all_after a b e files.Formula c.args.call.now.formula.now ((files.Proof, c.args.call.now.proof.now) ∷ []) c.read_part.ensures.text c.in_ok-bytes.ensures.read
+    (all_one b e files.Proof c.args.call.now.proof.now c.in_ok-bytes-2.ensures.read)

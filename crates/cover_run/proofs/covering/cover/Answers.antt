@@ -3,6 +3,7 @@ use Rattle.cover_run.specs.Commands.{cover_call}
 use Rattle.cover_run.specs.Files.{files_of}
 use Rattle.cover_run.specs.Seen.{seen}
 use Rattle.cover_run.specs.Words.{Cover}
+use Rattle.cover_run.proofs.Opening.{all_fine}
 use Rattle.cover_run.proofs.Reading.{read_then, subject_stops_cover}
 use Rattle.cover_run.proofs.covering.cover.Goals as goal
 
@@ -10,8 +11,6 @@ pub returns-clause-output : goal.returns-clause-output
 returns-clause-output g c = record {
   circuit = c.in_ok-circuit.circuit;
   signals = c.in_ok-circuit.signals.lits;
-  right_circuit = c.has_room.ensures.circuit;
-  right_signals = c.report_of.ensures.signals;
   has_circuit = c.in_ok-circuit.ensures.circuit;
   has_signals = c.in_ok-circuit.ensures.signals;
   room = c.in_ok-has_room.ensures.room;
@@ -29,4 +28,9 @@ pub returns-in_err-has_room-clause-left : goal.returns-in_err-has_room-clause-le
 returns-in_err-has_room-clause-left g c =
     let p = err_from_is_err_and c.from_residual-in_err-has_room.result c.from_residual-in_err-has_room.ensures.1 in
     rw (p.1, p.2) (read_then (files_of (Cover (cover_call c.args.call.now))) (seen (g.D.Desk.state c.args.desk.now) (g.D.Desk.state c.read_subject.new.desk)) c.in_err-has_room.field-0.0
-    c.in_err-has_room.ensures.read c.in_ok-circuit.ensures.read)
+    c.in_err-has_room.ensures.read (all_fine _ _ c.in_ok-circuit.ensures.read))
+
+pub returns-in_err-output-clause-left : goal.returns-in_err-output-clause-left
+returns-in_err-output-clause-left g c =
+    let p = err_from_is_err_and c.from_residual-in_err-output.result c.from_residual-in_err-output.ensures.1 in
+    rw (p.1, p.2) (all_fine _ _ c.in_ok-circuit.ensures.read)

@@ -1,6 +1,8 @@
 use Rattle.cover_run.proofs.CoverPromised as cover
+use Rattle.cover_run.proofs.GoalsPromised as goals
 use Rattle.cover_run.proofs.LratPromised as lrat
 use Rattle.cover_run.proofs.Promised as promised
+use Rattle.cover_run.proofs.ReplayPromised as replay
 use Rattle.cover_run.proofs.SubjectPromised as subject
 use Rattle.cover_run.proofs.running.run.Goals as goal
 
@@ -87,3 +89,30 @@ returns-clause-written g c = promised.written _ _ _ _ _ c.answer.ensures.answer
 
 pub returns-clause-no_fault : goal.returns-clause-no_fault
 returns-clause-no_fault g c = promised.no_fault _ _ _ _ _ c.answer.ensures.answer
+
+pub returns-clause-all_read : goal.returns-clause-all_read
+returns-clause-all_read g c = promised.all_read _ _ _ _ _ c.answer.ensures.answer
+
+pub returns-clause-exported : goal.returns-clause-exported
+returns-clause-exported g c = goals.exported _ _ _ _ _ c.answer.ensures.answer
+
+pub returns-clause-exported_comes : goal.returns-clause-exported_comes
+returns-clause-exported_comes g c = goals.exported_comes _ _ _ _ _ c.answer.ensures.answer
+
+pub returns-clause-many_goals_comes : goal.returns-clause-many_goals_comes
+returns-clause-many_goals_comes g c = goals.many_goals_comes _ _ _ _ _ c.answer.ensures.answer
+
+pub returns-clause-replayed : goal.returns-clause-replayed
+returns-clause-replayed g c = replay.replayed _ _ _ _ _ c.answer.ensures.answer
+
+pub returns-clause-replayed_comes : goal.returns-clause-replayed_comes
+returns-clause-replayed_comes g c = replay.replayed_comes _ _ _ _ _ c.answer.ensures.answer
+
+pub returns-clause-long_witness_comes : goal.returns-clause-long_witness_comes
+returns-clause-long_witness_comes g c = replay.long_witness_comes _ _ _ _ _ c.answer.ensures.answer
+
+pub returns-clause-bad_witness_comes : goal.returns-clause-bad_witness_comes
+returns-clause-bad_witness_comes g c = replay.bad_witness_comes _ _ _ _ _ c.answer.ensures.answer
+
+pub returns-clause-misfit_comes : goal.returns-clause-misfit_comes
+returns-clause-misfit_comes g c = replay.misfit_comes _ _ _ _ _ c.answer.ensures.answer

@@ -4,23 +4,33 @@ use Rattle.aig_ascii.specs.Aag.{SpellsCircuit}
 use Rattle.aig_model.specs.declared.parts.Parts.{Parts}
 use Rattle.cover_run.specs.declared.stop.File.TheVariants as files
 use Rattle.cover_run.specs.Commands.{subject_named}
-use Rattle.cover_run.specs.Covering.{IsCircuitText, HasCircuit}
+use Rattle.aig_ascii.proofs.Texts.{is-circuit}
+use Rattle.aig_model.specs.WellFormed.{IsCircuit}
+use Rattle.signal_list.specs.SignalText.{SpellsSignals}
+use Rattle.signal_list.proofs.InRange.{are-signals}
+use Rattle.cover_run.specs.Covering.{HasCircuit, HasSignals}
 use Rattle.cover_run.specs.Files.{limit_of, subject_files}
 use Rattle.cover_run.specs.Seen.{DeskSeen, seen}
 use Rattle.cover_run.specs.Words.{Subject}
-use Rattle.cover_run.proofs.WhereTold.{IfSome-map}
-use Rattle.cover_run.proofs.Reading.{fine_first, fine_after, read_after, read_more, read_then, part_after, circuit_unread, signals_unread, circuit_refused, signals_refused}
+use Rattle.cover_run.proofs.Reading.{fine_first, fine_after, all_one, all_after, read_after, read_more, read_then, part_after, circuit_unread, signals_unread, circuit_refused, signals_refused}
 use Rattle.cover_run.proofs.subject.read_subject.Goals as goal
 
 -- what is known of the bytes of a file is known of its text
-circuit_text : (bytes read t : List ℕ) (c : Parts) → read ≡ bytes → length bytes ≤ limit_of files.Circuit → SpellsCircuit read c → bytes ≡ t → IsCircuitText c t
-circuit_text bytes read t c is short spells same =
-    subst (IsCircuitText c) same (record { short = short; spells = subst (λ (xs : List ℕ). SpellsCircuit xs c) is spells })
-
 has_circuit : (s : Subject) (d : DeskSeen) (bytes read : List ℕ) (c : Parts) → read ≡ bytes → length bytes ≤ limit_of files.Circuit → SpellsCircuit read c
     → IfSome (d.old.text s.circuit) (λ t. bytes ≡ t) → HasCircuit s d c
-has_circuit s d bytes read c is short spells told =
-    IfSome-map (λ (t : List ℕ). bytes ≡ t) (IsCircuitText c) (d.old.text s.circuit) (λ t same. circuit_text bytes read t c is short spells same) told
+has_circuit s d bytes read c is short spells told = record {
+  text = bytes;
+  told = told;
+  has = record { short = short; spells = subst (λ (xs : List ℕ). SpellsCircuit xs c) is spells; right = is-circuit read c spells };
+}
+
+has_signals : (s : Subject) (d : DeskSeen) (bytes read : List ℕ) (c : Parts) (sig : List ℕ) → read ≡ bytes → length bytes ≤ limit_of files.Signals → IsCircuit c
+    → SpellsSignals c read sig → IfSome (d.old.text s.signals) (λ t. bytes ≡ t) → HasSignals s d c sig
+has_signals s d bytes read c sig is short right spells told = record {
+  text = bytes;
+  told = told;
+  has = record { short = short; spells = subst (λ (xs : List ℕ). SpellsSignals c xs sig) is spells; right = are-signals c read sig right spells };
+}
 
 pub returns-in_err-bytes-clause-cause : goal.returns-in_err-bytes-clause-cause
 returns-in_err-bytes-clause-cause g c =
@@ -32,7 +42,8 @@ pub returns-in_err-bytes-clause-left : goal.returns-in_err-bytes-clause-left
 returns-in_err-bytes-clause-left g c =
     let p = err_from_is_err_and c.from_residual.result c.from_residual.ensures.1 in
     rw (p.1, p.2) (read_more (seen (g.D.Desk.state c.args.desk.now) (g.D.Desk.state c.read_part.new.desk)) (files.Circuit, c.args.subject.now.circuit.now)
-    ((files.Signals, c.args.subject.now.signals.now) ∷ []) c.in_err-bytes.field-0.0 c.in_err-bytes.ensures.left)
+    ((files.Signals, c.args.subject.now.signals.now) ∷ []) c.in_err-bytes.field-0.0 c.in_err-bytes.ensures.cause
+    c.in_err-bytes.ensures.left)
 
 pub returns-in_err-circuit-clause-cause : goal.returns-in_err-circuit-clause-cause
 returns-in_err-circuit-clause-cause g c =
@@ -66,7 +77,7 @@ returns-in_err-bytes-2-clause-left g c =
     let b = g.D.Desk.state c.read_part.new.desk in
     let e = g.D.Desk.state c.read_part-2.new.desk in
     rw (p.1, p.2) (read_after a b e files.Circuit c.args.subject.now.circuit.now ((files.Signals, c.args.subject.now.signals.now) ∷ []) c.in_err-bytes-2.field-0.0
-    c.in_ok-bytes.ensures.read c.in_err-bytes-2.ensures.left)
+    c.read_part.ensures.text c.in_ok-bytes.ensures.read c.in_err-bytes-2.ensures.left)
 
 pub returns-in_err-signals-clause-cause : goal.returns-in_err-signals-clause-cause
 returns-in_err-signals-clause-cause g c =
@@ -95,5 +106,18 @@ returns-clause-read g c =
     let a = g.D.Desk.state c.args.desk.now in
     let b = g.D.Desk.state c.read_part.new.desk in
     let e = g.D.Desk.state c.read_part-2.new.desk in
-    fine_after a b e files.Circuit c.args.subject.now.circuit.now ((files.Signals, c.args.subject.now.signals.now) ∷ []) c.in_ok-bytes.ensures.read
-    (fine_first b e files.Signals c.args.subject.now.signals.now [] c.in_ok-bytes-2.ensures.read)
+    all_after a b e files.Circuit c.args.subject.now.circuit.now ((files.Signals, c.args.subject.now.signals.now) ∷ []) c.read_part.ensures.text c.in_ok-bytes.ensures.read
+    (all_one b e files.Signals c.args.subject.now.signals.now c.in_ok-bytes-2.ensures.read)
+
+pub returns-clause-circuit : goal.returns-clause-circuit
+returns-clause-circuit g c =
+    has_circuit (subject_named c.args.subject.now) (seen (g.D.Desk.state c.args.desk.now) (g.D.Desk.state c.read_part-2.new.desk)) c.in_ok-bytes.bytes.items c.deref.result.now _
+    c.deref.ensures.value c.in_ok-bytes.ensures.short c.in_ok-circuit.ensures.circuit c.in_ok-bytes.ensures.whole
+
+pub returns-clause-signals : goal.returns-clause-signals
+returns-clause-signals g c =
+    let s = subject_named c.args.subject.now in
+    let bytes = c.in_ok-bytes-2.bytes.items in
+    let told = subst (λ (o : Option (List ℕ)). IfSome o (λ t. bytes ≡ t)) (c.read_part.ensures.text s.signals) c.in_ok-bytes-2.ensures.whole in
+    has_signals s (seen (g.D.Desk.state c.args.desk.now) (g.D.Desk.state c.read_part-2.new.desk)) bytes c.deref-2.result.now _ _ c.deref-2.ensures.value c.in_ok-bytes-2.ensures.short
+    (is-circuit _ _ c.in_ok-circuit.ensures.circuit) c.in_ok-signals.ensures.signals told
