@@ -1,5 +1,5 @@
 #!/usr/bin/env python3
-"""Time and memory of reading ASCII circuits, over the proved program.
+"""Time and memory of reading ASCII and binary circuits, over the proved program.
 
 The program is crates/ketch/out/ketch, as `rt ci` or `rt run` leaves it. Each circuit is read whole, put in
 order and built; then its product of frames is found too large, so nothing of the run follows the reading.
@@ -39,6 +39,33 @@ def circuit(count, near, shuffled, symbols):
     return "\n".join(head + lines + names) + "\n"
 
 
+def delta(value, least):
+    """A number in groups of seven bits, the lowest first, in at least so many bytes."""
+    groups = []
+    while value or len(groups) < least:
+        groups.append(value % 128 + 128)
+        value //= 128
+    groups[-1] -= 128
+    return bytes(groups)
+
+
+def binary_circuit(count, near, outputs, least):
+    """Gates as above, deltas of at least so many bytes, and a line and a symbol for each output."""
+    chosen = random.Random(3)
+    top = INPUTS + count
+    lines = [f"aig {top} {INPUTS} 0 {outputs} {count}"]
+    lines += [str(2 * (top - k)) for k in range(outputs)]
+    parts = ["\n".join(lines).encode(), b"\n"]
+    for gate in range(count):
+        variable = INPUTS + gate + 1
+        lowest = max(1, variable - near)
+        inputs = (2 * chosen.randrange(lowest, variable) + chosen.randrange(2) for _ in "ab")
+        right, left = sorted(inputs)
+        parts.append(delta(2 * variable - left, least) + delta(left - right, least))
+    parts += [f"o{k} grant[{k}]\n".encode() for k in range(outputs)]
+    return b"".join(parts)
+
+
 def run(words, folder):
     """Seconds, peak memory in MB, and what the program said."""
     said = os.path.join(folder, "said")
@@ -62,10 +89,10 @@ def plain_read(path):
 
 
 def measure(folder, title, text):
-    path = os.path.join(folder, "circuit.aag")
+    path = os.path.join(folder, "circuit")
     signals = os.path.join(folder, "signals")
-    with open(path, "w") as file:
-        file.write(text)
+    with open(path, "wb") as file:
+        file.write(text if isinstance(text, bytes) else text.encode())
     with open(signals, "w") as file:
         file.write("o0\n")
     words = ["cover", path, signals, "--hop", "50"]
@@ -73,7 +100,7 @@ def measure(folder, title, text):
     if said != WANTED:
         sys.exit(f"{title}: the program said {said!r}")
     size = len(text) / 1e6
-    print(f"{title:34} {size:6.1f} MB: {seconds:6.3f} s, {size / seconds:6.1f} MB/s, "
+    print(f"{title:42} {size:6.1f} MB: {seconds:6.3f} s, {size / seconds:6.1f} MB/s, "
           f"{peak:7.1f} MB held; read alone {plain_read(path):5.3f} s")
 
 
@@ -85,6 +112,14 @@ def main():
             measure(folder, f"{count} gates in order", circuit(count, 1000, False, INPUTS))
         measure(folder, "1000000 gates in shuffled lines", circuit(1_000_000, 1000, True, INPUTS))
         measure(folder, "1000000 gates, far and shuffled", circuit(1_000_000, 4_000_000, True, INPUTS))
+        # short deltas; long ones; long ones beside lines and symbols, some 60 MB
+        for count, near, outputs, least in (
+            (3_900_000, 60, 100, 1),
+            (3_900_000, 1_000_000, 100, 5),
+            (3_000_000, 1_000_000, 1_000_000, 5),
+        ):
+            title = f"{count} gates, {outputs} outputs, binary"
+            measure(folder, title, binary_circuit(count, near, outputs, least))
 
 
 if __name__ == "__main__":
