@@ -11,7 +11,7 @@ ghost use Rattle.sat_solver.specs.SearchInvariant.{IsSearch};
 ghost use Rattle.sat_solver.specs.LearnedLemma.{IsLearnedFrom};
 
 use crate::refutation::next_id;
-use crate::restart::level_after;
+use crate::restart::count_levels;
 use crate::search::Search;
 use cnf_base::{Clause, CnfLit, Formula};
 use ketch_base::OutOfMemory;
@@ -68,7 +68,10 @@ pub fn add_lemma(
     let id = next_id(formula, &search.steps);
     let lemma = Clause::from_slice(alloc, learned.lits())?;
     search.conflicts += 1;
-    let level = level_after(search.conflicts, learned.backjump_level());
+    let levels = count_levels(&search.premises.trail, learned.lits());
+    let level = search
+        .restarts
+        .level_after(levels, learned.backjump_level());
     search.premises.trail.is_well_formed();
     search.phases.note(&search.premises.trail, level);
     search.premises.trail.back_to(level);

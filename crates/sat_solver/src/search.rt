@@ -5,6 +5,7 @@ ghost use Rattle.std.specs.List.{range_with_len};
 
 use crate::considered::Considered;
 use crate::phases::Phases;
+use crate::restart::Restarts;
 use ketch_base::OutOfMemory;
 use lrat_text::Proof;
 use sat_learn::{Analyzer, Premises};
@@ -26,6 +27,7 @@ pub struct Search {
     pub steps: Proof,
     /// How many of the steps are learned clauses. The others are literals of level 0.
     pub conflicts: usize,
+    pub restarts: Restarts,
 }
 
 /// With no clause and nothing assigned.
@@ -67,6 +69,7 @@ impl Search {
             considered: Considered::new(alloc, vars)?,
             steps: Proof::new(alloc),
             conflicts: 0,
+            restarts: Restarts::new(),
         })
     }
 }

@@ -31,3 +31,5 @@ mod rows;
 mod trail_rows;
 #[cfg(test)]
 mod truth;
+#[cfg(test)]
+mod watch_rows;
