@@ -1,25 +1,23 @@
 -- The sections of a circuit's text: they spell the circuit, and all that is asked of them is met.
-use Rattle.std.proofs.Common.{◌≡◌, ◌≢◌, ℕ, ◌+◌, ◌^◌, ◌<◌, ◌≤◌, Bool, true, false, cond, ◌||◌, IsTrue, nat_eq, List, [], ◌∷◌, ◌++◌, map, length, get_or, refl, sym, ap, ◌∙◌, subst, arith, AllPairs, Contains, append_assoc}
+use Rattle.std.proofs.Common.{◌≡◌, ◌≢◌, ℕ, ◌+◌, ◌<◌, ◌≤◌, IsTrue, List, [], ◌∷◌, ◌++◌, map, length, get_or, refl, sym, ap, ◌∙◌, subst, arith, AllPairs, Contains, append_assoc}
 use Rattle.std.specs.List.{AllByRecursion, flat_map}
-use Rattle.std.proofs.lemmas.Bool.Decides.{nat_tests}
 use Rattle.std.proofs.lemmas.List.{length-map, length-append, get_or_append_left, get_or_at, append-nil, map-append}
 use Rattle.std.proofs.lemmas.List.Elements.{recursion_from_All}
 use Rattle.aig_model.specs.Literal.{var}
-use Rattle.aig_model.specs.WellFormed.{latch_lits, next_lits, left_sides, gate_inputs, latch_literals, gate_literals, literals, definers, uses, limit, IsInRange, IsDefining, IsKnown, IsCircuit}
+use Rattle.aig_model.specs.WellFormed.{latch_lits, next_lits, left_sides, gate_inputs, definers, uses, limit, IsInRange, IsDefining, IsKnown, IsCircuit}
 use Rattle.aig_model.specs.declared.parts.Latch.{Latch}
 use Rattle.aig_model.specs.declared.parts.AndGate.{AndGate}
 use Rattle.aig_model.specs.declared.parts.Reset.{Reset}
-use Rattle.aig_model.specs.declared.parts.Reset.TheVariants.{Zero, One, Free}
 use Rattle.aig_model.specs.declared.parts.Parts.{Parts}
-use Rattle.text_words.specs.Text.{Rest, lines_of, after_lines, fields, number}
+use Rattle.text_words.specs.Text.{Rest, lines_of, number}
 use Rattle.aig_ascii.specs.Demands.{Demand, AllMet}
-use Rattle.aig_ascii.specs.Sections.{in_range, is_reset, is_known, Form, section_demands, section_uses, use_demands, reset_of, latch_of, gate_of, lits_of}
+use Rattle.aig_ascii.specs.Sections.{is_known, Form, section_demands, section_uses, use_demands, reset_of, latch_of, gate_of, lits_of}
 use Rattle.aig_ascii.specs.Sections.Form.{input, latch, plain, gate}
 use Rattle.aig_ascii.specs.Aag.{Layout, layout_from, body_demands, uses_in}
 use Rattle.aig_ascii.specs.CircuitText.{reset_numbers, lit_text, latch_text, gate_text, sections_text}
-use Rattle.aig_ascii.proofs.SpelledLines.{SpellLines, SmallLines, AreSmall, Fit, numbers_text, lines-spell}
+use Rattle.aig_ascii.proofs.SpelledLines.{SpellLines, SmallLines, AreSmall, lines-spell}
 use Rattle.aig_ascii.proofs.SpelledItems.{first_number, each-split, each-map, one, latch_numbers, gate_numbers, texts-are, each-always, each-both, small-lines, small_lit, reset-small, fit-reset, reset-back, section-items, section-mapped, section-after, ranges, spell_ones, lits_back}
-use Rattle.aig_ascii.proofs.SpelledSections.{lines-items, lines-after, SectionFits, section-met, used_for, section-uses_numbers, uses-met, known-true, range-passes, new-passes}
+use Rattle.aig_ascii.proofs.SpelledSections.{SectionFits, section-met, used_for, section-uses_numbers, uses-met, known-true, range-passes, new-passes}
 use Rattle.aig_ascii.proofs.SpelledHeader.{sizes_from}
 use Rattle.aig_ascii.specs.Kinds.{aag_kind}
 use Rattle.aig_ascii.specs.declared.fault.AagKind.{AagKind}

@@ -1,5 +1,5 @@
 -- A circuit's text spells the circuit.
-use Rattle.std.proofs.Common.{◌≡◌, ◌≢◌, ℕ, inl, inr, ◌^◌, ◌<◌, codes, List, [], ◌∷◌, ◌++◌, get_or, sym, ap, ◌∙◌, subst, arith, append_assoc}
+use Rattle.std.proofs.Common.{◌≡◌, ◌≢◌, ℕ, inl, inr, codes, List, [], ◌∷◌, ◌++◌, get_or, sym, ap, ◌∙◌, subst, arith, append_assoc}
 use Rattle.std.specs.List.{AllByRecursion, flat_map}
 use Rattle.std.proofs.lemmas.List.Elements.{recursion_from_All, All-weaker}
 use Rattle.std.proofs.lemmas.List.Sorted.{All-permutation}
