@@ -1,19 +1,18 @@
 -- What the formulas of certificates mean: the clauses hold before a step, and a clause is false after it or a goal is shown.
-use Rattle.std.proofs.Common.{◌≡◌, ◌≢◌, ◌↔◌, ℕ, zero, suc, ◌+◌, ◌*◌, ◌^◌, ◌<◌, ◌≤◌, ◌⊎◌, inl, inr, Bool, true, false, not, ◌||◌, ℤ, pos, negsuc, neg_ℤ, List, [], ◌∷◌, ◌++◌, map, take, drop, length, get_or, refl, sym, ap, ◌∙◌, subst, arith, All, Any, IsTrue}
+use Rattle.std.proofs.Common.{◌≡◌, ◌≢◌, ◌↔◌, ℕ, zero, suc, ◌+◌, ◌<◌, ◌⊎◌, inl, inr, Bool, true, false, not, ◌||◌, ℤ, pos, negsuc, neg_ℤ, List, [], ◌∷◌, map, length, get_or, refl, sym, ap, ◌∙◌, subst, arith, All, Any, IsTrue}
 use Rattle.std.proofs.lemmas.Bool.{cases_lt, false≢true}
 use Rattle.std.proofs.lemmas.List.{take_all, get_or-map, get_or_past, length-map}
 use Rattle.std.proofs.lemmas.List.Elements.{All-map, All-weaker}
-use Rattle.cnf_base.specs.Meaning.{lit_true, clause_true, Satisfies, IsModel, value_of as cnf_value}
+use Rattle.cnf_base.specs.Meaning.{lit_true, clause_true, Satisfies, value_of as cnf_value}
 use Rattle.aig_model.specs.Literal.{var, value_of}
 use Rattle.aig_model.specs.WellFormed.{IsCircuit, latch_lits, next_lits}
-use Rattle.aig_model.specs.SignalList.{IsSignals}
 use Rattle.aig_model.specs.Meaning.{Assignment, Fits, IsLegal, latch_values, next_values, goal_of}
 use Rattle.aig_model.specs.LatchClauses.{latch_literal_value, SatisfiesClause, SatisfiesClauses}
 use Rattle.aig_model.specs.declared.parts.Latch.{Latch}
 use Rattle.aig_model.specs.declared.parts.Parts.{Parts}
 use Rattle.unroll.specs.declared.start.Start.TheVariants as starts
 use Rattle.unroll.specs.Frames.{vars_before, lit_after, unit_clauses, frames_clauses}
-use Rattle.unroll.specs.Queries.{goal_lits, latch_lit, latch_clause, held_clauses, kept_formula, excludes_formula}
+use Rattle.unroll.specs.Queries.{goal_lits, latch_lit, latch_clause, held_clauses}
 use Rattle.unroll.specs.Laws.{Holds, KeptModels, KeptIsRefuted, ExcludesModels, ExcludedIsRefuted}
 use Rattle.unroll.proofs.Room.{IsOwn, OwnsLatch, latches_own}
 use Rattle.unroll.proofs.Truth.{iff_trans, all_iff, or-false, not_true, sat_append, sat_map, Reads, frame_after, read_lit, read_negation}

@@ -1,14 +1,12 @@
 -- How many clauses the formulas have, at most.
-use Rattle.std.proofs.Common.{◌≡◌, ℕ, zero, suc, ◌+◌, ◌*◌, ◌/◌, ◌^◌, ◌<◌, ◌≤◌, ◌==◌, inl, inr, Bool, true, false, not, cond, ℤ, neg_ℤ, List, [], ◌∷◌, ◌++◌, map, filter, length, get_or, refl, sym, ap, ◌∙◌, arith, All, length-append}
+use Rattle.std.proofs.Common.{◌≡◌, ℕ, zero, suc, ◌+◌, ◌*◌, ◌/◌, ◌^◌, ◌<◌, ◌≤◌, ◌==◌, inl, inr, Bool, true, false, not, cond, ℤ, neg_ℤ, List, [], ◌∷◌, ◌++◌, map, filter, length, get_or, refl, ap, ◌∙◌, arith, All, length-append}
 use Rattle.std.specs.List.{flat_map, list_any, range_with_len, zip}
 use Rattle.std.proofs.lemmas.Bool.{cases_lt}
 use Rattle.std.proofs.lemmas.Nat.{pow_below}
 use Rattle.std.proofs.lemmas.List.{length-map}
 use Rattle.std.proofs.lemmas.List.FromFn.{length-range_with_len}
-use Rattle.std.proofs.lemmas.List.Elements.{All-head, All-tail}
 use Rattle.std.specs.List.Sorted.{IsStrictlyIncreasing}
 use Rattle.aig_model.specs.WellFormed.{IsCircuit, latch_lits, next_lits, defined}
-use Rattle.aig_model.specs.SignalList.{IsSignals}
 use Rattle.aig_model.specs.declared.parts.AndGate.{AndGate}
 use Rattle.aig_model.specs.declared.parts.Latch.{Latch}
 use Rattle.aig_model.specs.declared.parts.Parts.{Parts}
@@ -16,8 +14,8 @@ use Rattle.aig_model.specs.declared.parts.Reset.{Reset}
 use Rattle.aig_model.specs.declared.parts.Reset.TheVariants.{Zero, One, Free}
 use Rattle.unroll.specs.declared.start.Start.{Start}
 use Rattle.unroll.specs.declared.start.Start.TheVariants as starts
-use Rattle.unroll.specs.Frames.{var_after, lit_after, with_value, vars_before, undefined_vars, false_clauses, true_clauses, gate_clauses, step_clauses, reset_clauses, state_clauses, next_clauses, entry_clauses, frame_clauses, frames_clauses, unit_clauses}
-use Rattle.unroll.specs.Queries.{goal_lits, blocking_clause, latch_lit, latch_clause, search_formula, kept_formula, excludes_formula}
+use Rattle.unroll.specs.Frames.{var_after, lit_after, with_value, vars_before, undefined_vars, false_clauses, true_clauses, gate_clauses, step_clauses, reset_clauses, next_clauses, entry_clauses, frame_clauses, frames_clauses, unit_clauses}
+use Rattle.unroll.specs.Queries.{goal_lits, blocking_clause, latch_lit, latch_clause}
 use Rattle.unroll.specs.Laws.{FewToSearch, FewToKeep, FewToExclude}
 
 -- ---- lists

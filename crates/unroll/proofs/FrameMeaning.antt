@@ -1,12 +1,12 @@
 -- What the clauses of one frame say of its values: they fit, they are legal, and the latches are as the start or the step before says.
-use Rattle.std.proofs.Common.{◌≡◌, ◌↔◌, ℕ, zero, suc, ◌+◌, ◌*◌, ◌<◌, ◌≤◌, ◌==◌, inl, inr, Bool, true, false, not, cond, ℤ, neg_ℤ, List, [], ◌∷◌, ◌++◌, map, filter, length, get_or, take, drop, refl, sym, ap, ◌∙◌, subst, arith, All, Contains, IsTrue, length-take, length-drop}
+use Rattle.std.proofs.Common.{◌≡◌, ◌↔◌, ℕ, zero, suc, ◌+◌, ◌*◌, ◌<◌, ◌≤◌, ◌==◌, inl, inr, Bool, true, false, not, cond, neg_ℤ, List, [], ◌∷◌, ◌++◌, map, filter, length, get_or, drop, refl, sym, ap, ◌∙◌, subst, arith, All, Contains, IsTrue, length-take, length-drop}
 use Rattle.std.specs.List.{flat_map, list_any, range_with_len}
 use Rattle.std.proofs.lemmas.Bool.{cases_lt, false≢true}
 use Rattle.std.proofs.lemmas.List.{get_or-map, length-map, get_or_past}
 use Rattle.std.proofs.lemmas.List.FromFn.{length-range_with_len, get_or-range_with_len}
 use Rattle.std.proofs.lemmas.List.Elements.{All-nil, All-cons, All-head, All-tail, All-weaker, All-map, filter_passes}
-use Rattle.cnf_base.specs.Meaning.{lit_true, clause_true, Satisfies, value_of as cnf_value}
-use Rattle.aig_model.specs.Literal.{var, value_of}
+use Rattle.cnf_base.specs.Meaning.{lit_true, Satisfies, value_of as cnf_value}
+use Rattle.aig_model.specs.Literal.{value_of}
 use Rattle.aig_model.specs.WellFormed.{IsCircuit, latch_lits, next_lits, defined}
 use Rattle.aig_model.specs.Meaning.{Assignment, Fits, IsLegal, IsConjunction, IsReset, Agrees, latch_values, next_values}
 use Rattle.aig_model.specs.declared.parts.AndGate.{AndGate}

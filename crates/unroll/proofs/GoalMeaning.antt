@@ -1,5 +1,5 @@
 -- What the literals of a goal say: the goal is shown, and their negations that it is not.
-use Rattle.std.proofs.Common.{◌≡◌, ◌≢◌, ◌↔◌, ℕ, zero, suc, ◌+◌, ◌*◌, ◌/◌, ◌%◌, ◌^◌, ◌<◌, ◌==◌, ◌⊎◌, inl, inr, Bool, true, false, not, ◌||◌, ℤ, neg_ℤ, List, [], ◌∷◌, map, length, refl, sym, ap, ◌∙◌, subst, arith, All, Contains}
+use Rattle.std.proofs.Common.{◌≡◌, ◌≢◌, ◌↔◌, ℕ, ◌*◌, ◌/◌, ◌%◌, ◌^◌, ◌<◌, ◌==◌, ◌⊎◌, inl, inr, Bool, true, false, not, ◌||◌, ℤ, neg_ℤ, List, [], ◌∷◌, map, length, refl, sym, ap, ◌∙◌, subst, arith, All, Contains}
 use Rattle.std.proofs.Math.Nat.{pow-succ'}
 use Rattle.std.proofs.lemmas.Bool.{cases_lt, false≢true}
 use Rattle.std.proofs.lemmas.List.Elements.{All-nil, All-cons, All-head, All-tail, All-contains, Contains-get_or}
@@ -8,7 +8,7 @@ use Rattle.aig_model.specs.Literal.{value_of, number}
 use Rattle.aig_model.specs.Meaning.{Assignment, goal_of}
 use Rattle.unroll.specs.Frames.{lit_after, with_value, unit_clauses}
 use Rattle.unroll.specs.Queries.{goal_lits, blocking_clause}
-use Rattle.unroll.proofs.Truth.{iff_trans, all_iff, or-false, Reads, has_value, read_negation}
+use Rattle.unroll.proofs.Truth.{iff_trans, or-false, Reads, has_value, read_negation}
 
 -- ---- binary digits
 number_lt : (b : Bool) → number b < 2

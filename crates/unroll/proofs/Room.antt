@@ -1,5 +1,5 @@
 -- The variables of a circuit have a place in each step of its frames.
-use Rattle.std.proofs.Common.{◌≡◌, ℕ, zero, suc, ◌+◌, ◌*◌, ◌<◌, ◌≤◌, ◌==◌, not, List, [], ◌∷◌, ◌++◌, get_or, length, refl, arith, All}
+use Rattle.std.proofs.Common.{◌≡◌, ℕ, zero, suc, ◌+◌, ◌≤◌, ◌==◌, not, [], ◌∷◌, ◌++◌, get_or, refl, arith, All}
 use Rattle.std.specs.List.{list_any, range_with_len}
 use Rattle.std.proofs.lemmas.List.Elements.{All-weaker, All-filter, All-from_get_or}
 use Rattle.std.proofs.lemmas.Nat.{mul-le}

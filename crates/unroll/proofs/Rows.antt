@@ -1,11 +1,11 @@
 -- The rows that are read from the values of all steps.
-use Rattle.std.proofs.Common.{◌≡◌, ℕ, suc, ◌+◌, ◌*◌, ◌<◌, ◌≤◌, Bool, List, [], ◌∷◌, ◌++◌, map, take, drop, length, get_or, refl, sym, ap, ◌∙◌, arith, zero-add, All}
+use Rattle.std.proofs.Common.{◌≡◌, ℕ, ◌+◌, ◌*◌, ◌<◌, ◌≤◌, Bool, List, [], ◌∷◌, ◌++◌, map, take, drop, get_or, refl, sym, ap, ◌∙◌, arith, zero-add, All}
 use Rattle.std.specs.List.{range_with_len}
 use Rattle.std.proofs.lemmas.Nat.{mul-le}
 use Rattle.std.proofs.lemmas.List.{map-append}
 use Rattle.std.proofs.lemmas.List.FromFn.{map-range_with_len_more}
 use Rattle.std.proofs.lemmas.List.Elements.{All-map, All-weaker}
-use Rattle.aig_model.specs.Literal.{var, value_of}
+use Rattle.aig_model.specs.Literal.{var}
 use Rattle.aig_model.specs.Meaning.{Assignment}
 use Rattle.aig_model.specs.Table.{row_of, rows_of}
 use Rattle.aig_model.specs.WellFormed.{IsCircuit, latch_lits}

@@ -1,15 +1,15 @@
 -- Values satisfy the frames exactly where they are a run.
-use Rattle.std.proofs.Common.{◌≡◌, ◌↔◌, ℕ, zero, suc, ◌+◌, ◌*◌, ◌<◌, ◌≤◌, Bool, List, [], length, get_or, sym, ap, ◌∙◌, subst, arith, All, zero-add, add-one}
+use Rattle.std.proofs.Common.{◌≡◌, ◌↔◌, ℕ, zero, suc, ◌+◌, ◌<◌, ◌≤◌, Bool, List, [], length, get_or, sym, ap, ◌∙◌, subst, arith, zero-add, add-one}
 use Rattle.std.specs.List.{range_with_len}
 use Rattle.std.proofs.lemmas.List.FromFn.{length-range_with_len, get_or-range_with_len}
-use Rattle.cnf_base.specs.Meaning.{Satisfies, IsModel, value_of as cnf_value}
+use Rattle.cnf_base.specs.Meaning.{Satisfies, value_of as cnf_value}
 use Rattle.aig_model.specs.WellFormed.{IsCircuit}
-use Rattle.aig_model.specs.Meaning.{Assignment, Fits, IsLegal, Path, Run, latch_values, next_values}
+use Rattle.aig_model.specs.Meaning.{Assignment, Fits, IsLegal, Run, latch_values, next_values}
 use Rattle.aig_model.specs.declared.parts.Parts.{Parts}
 use Rattle.aig_model.proofs.Tables.{length-rows_of, get_or-rows_of}
 use Rattle.unroll.specs.declared.start.Start.{Start}
 use Rattle.unroll.specs.Starts.{IsStart, Allows}
-use Rattle.unroll.specs.Frames.{vars_before, frame_clauses, frames_clauses, frames_formula}
+use Rattle.unroll.specs.Frames.{vars_before, frame_clauses, frames_clauses}
 use Rattle.unroll.specs.Laws.{AreRun, FramesAreRuns, frames_of}
 use Rattle.unroll.proofs.Room.{before_le}
 use Rattle.unroll.proofs.Truth.{sat_flat_map}

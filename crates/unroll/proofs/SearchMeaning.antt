@@ -1,22 +1,22 @@
 -- What the search formula means: a run that ends in a goal that is not blocked.
-use Rattle.std.proofs.Common.{◌≡◌, ◌≢◌, ◌↔◌, ℕ, zero, suc, ◌+◌, ◌*◌, ◌^◌, ◌<◌, ◌≤◌, inl, inr, Bool, true, List, [], ◌∷◌, ◌++◌, map, take, drop, length, get_or, refl, sym, ap, ◌∙◌, subst, arith, All, Contains, length-append}
-use Rattle.std.specs.List.{flat_map, range_with_len}
+use Rattle.std.proofs.Common.{◌≡◌, ◌≢◌, ◌↔◌, ℕ, zero, suc, ◌+◌, ◌*◌, ◌^◌, ◌<◌, inl, inr, Bool, true, List, [], ◌∷◌, ◌++◌, map, take, drop, length, get_or, sym, ap, ◌∙◌, subst, arith, All, Contains, length-append}
+use Rattle.std.specs.List.{flat_map}
 use Rattle.std.proofs.lemmas.List.{take_all, take-append-le}
 use Rattle.std.proofs.lemmas.List.FromFn.{fill_by_all}
 use Rattle.std.proofs.lemmas.List.Elements.{All-head, All-tail, All-weaker}
-use Rattle.cnf_base.specs.Meaning.{clause_true, Satisfies, IsModel, value_of as cnf_value}
-use Rattle.aig_model.specs.Literal.{var, value_of}
-use Rattle.aig_model.specs.WellFormed.{IsCircuit, IsInRange}
+use Rattle.cnf_base.specs.Meaning.{clause_true, Satisfies, value_of as cnf_value}
+use Rattle.aig_model.specs.Literal.{value_of}
+use Rattle.aig_model.specs.WellFormed.{IsInRange}
 use Rattle.aig_model.specs.SignalList.{IsSignals}
 use Rattle.aig_model.specs.Table.{row_of, rows_of}
 use Rattle.aig_model.specs.Meaning.{Assignment, Fits, Run, goal_of}
 use Rattle.aig_model.specs.declared.parts.Parts.{Parts}
 use Rattle.aig_model.proofs.Elements.{Contains-or_not}
 use Rattle.unroll.specs.declared.start.Start.{Start}
-use Rattle.unroll.specs.Starts.{IsStart, Allows}
-use Rattle.unroll.specs.Frames.{vars_before, lit_after, frames_clauses, frames_formula}
-use Rattle.unroll.specs.Queries.{blocking_clause, search_formula}
-use Rattle.unroll.specs.Laws.{AreRun, AreNew, SearchedAreNew, NoneIsNew, frames_of}
+use Rattle.unroll.specs.Starts.{Allows}
+use Rattle.unroll.specs.Frames.{vars_before, lit_after, frames_clauses}
+use Rattle.unroll.specs.Queries.{blocking_clause}
+use Rattle.unroll.specs.Laws.{AreRun, SearchedAreNew, NoneIsNew, frames_of}
 use Rattle.unroll.proofs.Truth.{iff_trans, all_iff, sat_append, sat_map, Reads, frame_after, read_lit}
 use Rattle.unroll.proofs.FrameMeaning.{frame}
 use Rattle.unroll.proofs.RunMeaning.{frames_are_runs_lem, frame_at}

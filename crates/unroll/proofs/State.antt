@@ -1,6 +1,6 @@
 -- The clauses of a given state, one latch after another.
-use Rattle.std.proofs.Common.{◌≡◌, ℕ, ◌+◌, ◌<◌, ◌≤◌, Bool, ℤ, List, [], ◌∷◌, ◌++◌, length, get_or, take, map, refl, sym, ap, ◌∙◌, arith}
-use Rattle.std.proofs.lemmas.List.{take_more, map-append, length-map, length-take-le}
+use Rattle.std.proofs.Common.{◌≡◌, ℕ, ◌+◌, ◌<◌, Bool, ℤ, List, [], ◌∷◌, ◌++◌, length, get_or, take, refl, sym, ap, ◌∙◌, arith}
+use Rattle.std.proofs.lemmas.List.{map-append, length-map, length-take-le}
 use Rattle.aig_model.specs.WellFormed.{latch_lits}
 use Rattle.aig_model.specs.declared.parts.Latch.{Latch}
 use Rattle.aig_model.proofs.Elements.{items_next}

@@ -1,5 +1,5 @@
 -- Which variables nothing defines: marks of those that are defined, and what is left.
-use Rattle.std.proofs.Common.{◌≡◌, ◌≢◌, ℕ, zero, suc, ◌+◌, ◌-◌, ◌<◌, ◌≤◌, inl, inr, Bool, true, false, ◌||◌, ◌==◌, not, cond, eqb, eq-eqb, List, [], ◌∷◌, ◌++◌, map, length, get_or, take, set, filter, refl, sym, ap, ◌∙◌, subst, append_assoc, arith, Contains, length-take}
+use Rattle.std.proofs.Common.{◌≡◌, ◌≢◌, ℕ, zero, suc, ◌+◌, ◌-◌, ◌<◌, ◌≤◌, inl, inr, Bool, true, false, ◌||◌, ◌==◌, not, cond, eqb, eq-eqb, List, [], ◌∷◌, ◌++◌, map, length, get_or, take, set, filter, refl, sym, ap, ◌∙◌, subst, append_assoc, arith, Contains}
 use Rattle.std.specs.List.{list_any, range_with_len, take-map}
 use Rattle.std.proofs.lemmas.Bool.Decides.{nat_tests}
 use Rattle.std.proofs.lemmas.List.{get_or-map, length-map, length-set, append-nil}

@@ -1,5 +1,4 @@
-use Rattle.std.proofs.Common.{◌≡◌, ◌≤◌, ℤ, List, All, length, nat_abs, sym, ap, ◌∙◌, subst, arith}
-use Rattle.std.proofs.lemmas.List.Elements.{at_read}
+use Rattle.std.proofs.Common.{◌≡◌, All, length, sym, ap, ◌∙◌, subst, arith}
 use Rattle.cnf_base.specs.Meaning.{CnfFormula, IsWithin}
 use Rattle.unroll.specs.Building.{HasLit, NamesItem}
 use Rattle.unroll.specs.Queries.{latch_clause}

@@ -1,5 +1,5 @@
-use Rattle.std.proofs.Common.{◌≡◌, ℕ, ℤ, ◌+◌, List, All, sym, ap, ◌∙◌, subst, arith}
-use Rattle.cnf_base.specs.Meaning.{CnfFormula, IsWithin}
+use Rattle.std.proofs.Common.{ℕ, List, sym, ap, ◌∙◌, subst, arith}
+use Rattle.cnf_base.specs.Meaning.{IsWithin}
 use Rattle.aig_model.specs.SignalList.{IsSignals}
 use Rattle.aig_model.specs.declared.parts.Parts.{Parts}
 use Rattle.unroll.specs.Queries.{goal_lits}

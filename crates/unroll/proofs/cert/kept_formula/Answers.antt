@@ -1,9 +1,9 @@
-use Rattle.std.proofs.Common.{◌≡◌, ℕ, ◌+◌, List, All, length, map, sym, ap, ◌∙◌, subst, arith}
-use Rattle.cnf_base.specs.Meaning.{CnfFormula, IsWithin}
+use Rattle.std.proofs.Common.{ℕ, List, All, sym, ap, ◌∙◌, subst, arith}
+use Rattle.cnf_base.specs.Meaning.{IsWithin}
 use Rattle.aig_model.specs.WellFormed.{next_lits}
 use Rattle.aig_model.specs.LatchClauses.{IsLatchClause}
 use Rattle.aig_model.specs.declared.parts.Latch.{Latch}
-use Rattle.unroll.specs.Building.{HasLit, NamesItem}
+use Rattle.unroll.specs.Building.{HasLit}
 use Rattle.unroll.specs.Queries.{latch_clause}
 use Rattle.unroll.proofs.Within.{next_lits_have_room, latch_clause_within, clause_names}
 use Rattle.unroll.proofs.cert.kept_formula.Goals as goal

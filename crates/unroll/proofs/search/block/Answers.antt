@@ -1,4 +1,4 @@
-use Rattle.std.proofs.Common.{◌≡◌, ℕ, ℤ, List, All, sym, ap, ◌∙◌, subst}
+use Rattle.std.proofs.Common.{◌≡◌, All, sym, ap, ◌∙◌, subst}
 use Rattle.cnf_base.specs.Meaning.{CnfFormula, IsWithin}
 use Rattle.unroll.specs.Building.{HasLit}
 use Rattle.unroll.proofs.Within.{blocking_within}

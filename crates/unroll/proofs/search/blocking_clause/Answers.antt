@@ -1,4 +1,4 @@
-use Rattle.std.proofs.Common.{ℤ, List, ◌≤◌, nat_abs, sym, ◌∙◌, subst, arith}
+use Rattle.std.proofs.Common.{sym, ◌∙◌, subst, arith}
 use Rattle.cnf_base.specs.Meaning.{IsWithin}
 use Rattle.unroll.proofs.Within.{goal_within, item_within}
 use Rattle.unroll.proofs.search.blocking_clause.Goals as goal

@@ -1,4 +1,4 @@
-use Rattle.std.proofs.Common.{◌≡◌, ◌+◌, Bool, List, map, length, ◌∙◌, ap, arith}
+use Rattle.std.proofs.Common.{◌+◌, Bool, List, map, length, ◌∙◌, ap, arith}
 use Rattle.aig_model.specs.Literal.{value_of}
 use Rattle.unroll.proofs.Rows.{first_room, first_row}
 use Rattle.unroll.proofs.trace.trace_by_lits.Goals as goal

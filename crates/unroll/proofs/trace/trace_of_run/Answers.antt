@@ -1,4 +1,4 @@
-use Rattle.std.proofs.Common.{◌+◌, ◌<◌, ℕ, List, All, sym, ◌∙◌, subst, arith}
+use Rattle.std.proofs.Common.{◌+◌, ◌<◌, ℕ, List, All, sym, ◌∙◌, subst}
 use Rattle.aig_model.specs.Literal.{var}
 use Rattle.unroll.proofs.Rows.{latches_inside, inputs_inside}
 use Rattle.unroll.proofs.trace.trace_of_run.Goals as goal

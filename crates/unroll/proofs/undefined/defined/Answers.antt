@@ -1,11 +1,10 @@
-use Rattle.std.proofs.Common.{◌≡◌, ◌+◌, Bool, false, List, [], ◌++◌, length, replicate, sym, ap, ◌∙◌, subst, append_assoc, arith}
+use Rattle.std.proofs.Common.{◌≡◌, ◌+◌, Bool, false, List, [], ◌++◌, length, sym, ap, ◌∙◌, subst, append_assoc, arith}
 use Rattle.std.proofs.lemmas.List.{length-replicate}
 use Rattle.aig_model.specs.WellFormed.{latch_lits, left_sides}
 use Rattle.aig_model.specs.Marks.{Marks, HaveRoom}
 use Rattle.aig_model.specs.declared.parts.AndGate.{AndGate}
 use Rattle.aig_model.specs.declared.parts.Latch.{Latch}
 use Rattle.aig_model.proofs.Building.{marks_nothing}
-use Rattle.unroll.specs.Building.{MarksMore}
 use Rattle.unroll.proofs.UndefinedVars.{latches_have_room, gates_have_room}
 use Rattle.unroll.proofs.undefined.defined.Goals as goal
 

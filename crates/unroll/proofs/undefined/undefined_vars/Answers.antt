@@ -1,6 +1,5 @@
-use Rattle.std.proofs.Common.{◌≡◌, ◌+◌, ◌-◌, ◌∷◌, [], ◌++◌, ℕ, List, Bool, true, false, cond, not, filter, get_or, refl, sym, ap, ◌∙◌, arith, Vec, Global}
-use Rattle.std.specs.List.{range_with_len}
-use Rattle.unroll.proofs.UndefinedVars.{is_undefined, undefined_kept, defined_passed}
+use Rattle.std.proofs.Common.{◌+◌, ◌-◌, ℕ, true, false, sym, ap, ◌∙◌, Vec, Global}
+use Rattle.unroll.proofs.UndefinedVars.{undefined_kept, defined_passed}
 use Rattle.unroll.proofs.undefined.undefined_vars.Goals as goal
 use Rattle.unroll.proofs.undefined.undefined_vars.Goals.{then-not-get+in_ok-push, else-not-get}
 
