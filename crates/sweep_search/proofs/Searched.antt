@@ -1,0 +1,163 @@
+-- What is known between the steps of a sweep.
+use Rattle.std.proofs.Common.{◌≡◌, ◌≢◌, ℕ, ◌+◌, ◌-◌, ◌<◌, ◌≤◌, ◌^◌, Bool, true, List, [], ◌∷◌, ◌++◌, length, get_or, eqb, eq-eqb, refl, sym, ap, subst, ◌∙◌, arith, All, AllPairs, Contains, inl, inr}
+use Rattle.std.specs.Prelude.{◌↔◌}
+use Rattle.std.specs.List.Sorted.{IsStrictlyIncreasing}
+use Rattle.std.proofs.lemmas.Bool.{cases_lt}
+use Rattle.std.proofs.lemmas.List.{length-map, get_or-map, map_push}
+use Rattle.std.proofs.lemmas.List.Elements.{All-get_or, All-push, All-nil, All-map, All-weaker, All-contains, All-contains_itself, Contains-append_left, Contains-get_or}
+use Rattle.std.proofs.lemmas.List.Kept.{AllPairs-from_increasing}
+use Rattle.std.proofs.lemmas.List.Quantifiers.{all_pairs_push, Any-push}
+use Rattle.std.proofs.lemmas.List.Folds.{list_any_at}
+use Rattle.std.proofs.lemmas.Map.Steps.{le-length_from_below}
+use Rattle.std.specs.List.{list_any}
+use Rattle.aig_model.specs.Meaning.{At, input_values}
+use Rattle.aig_model.specs.declared.parts.Parts.{Parts}
+use Rattle.aig_model.specs.declared.trace.Trace.{Trace}
+use Rattle.aig_model.proofs.OneGoal.{goal_of-lt}
+use Rattle.lrat_text.specs.declared.proof.LratStep.{LratStep}
+use Rattle.sim_walk.proofs.Full.{distinct_below, all_contained}
+use Rattle.unroll.specs.declared.start.Start.TheVariants.{Reset}
+use Rattle.hop_search.specs.Answers.{IsNewGoal, IsNoMore}
+use Rattle.hop_search.proofs.NewGoals.{new_replays_lem}
+use Rattle.sweep_search.specs.Sweep.{IsMarked, IsSettled, AreAllSettled, IsFirstReached, AreNewGoals, goals_of}
+use Rattle.sweep_search.specs.Steps.{IsSearched}
+use Rattle.sweep_search.specs.declared.swept.FoundGoal.{FoundGoal}
+use Rattle.sweep_search.proofs.Marks.{marked_below}
+
+pub searched_none : (c : Parts) (sig : List ℕ) (known : List Bool) → IsSearched c sig known 0 []
+searched_none c sig known = record {
+  news = record {
+    reached = All-nil (IsFirstReached c sig);
+    new = All-nil (λ (f : FoundGoal). ¬ IsMarked known f.goal);
+    once = λ i j d l m. absurd (omega arith);
+    ordered = λ i j d l m. absurd (omega arith);
+  };
+  near = All-nil (λ (f : FoundGoal). f.step ≤ 0);
+  whole = λ d goal l w. absurd (omega arith);
+  timely = λ all. inl refl;
+}
+
+-- ---- goals are below their number
+pub reached_below : (c : Parts) (sig : List ℕ) (f : FoundGoal) → IsFirstReached c sig f → f.goal < 2 ^ length sig
+reached_below c sig f r =
+    subst (λ (g : ℕ). g < 2 ^ length sig) r.shows.shows (goal_of-lt sig (get_or r.shows.frames (length r.shows.frames - 1) []))
+
+pub found_below : (c : Parts) (sig : List ℕ) (known : List Bool) (found : List FoundGoal) → AreNewGoals c sig known found
+    → All (λ (f : FoundGoal). f.goal < 2 ^ length sig) found
+found_below c sig known found news = All-weaker (IsFirstReached c sig) (λ (f : FoundGoal). f.goal < 2 ^ length sig) (reached_below c sig) found news.reached
+
+pub settled_below : (c : Parts) (sig : List ℕ) (known : List Bool) (found : List FoundGoal) (goal : ℕ) → length known ≡ 2 ^ length sig → AreNewGoals c sig known found
+    → IsSettled known found goal → goal < 2 ^ length sig
+settled_below c sig known found goal size news s =
+    elim s [
+      | inl marked ↦ omega (arith, marked_below known goal marked, size)
+      | inr has ↦ All-contains (λ g. g < 2 ^ length sig) (goals_of found) goal
+          (All-map (λ g. g < 2 ^ length sig) (λ (f : FoundGoal). f.goal) found (found_below c sig known found news)) has
+    ]
+
+pub blocked_below : (c : Parts) (sig : List ℕ) (known : List Bool) (found : List FoundGoal) (blocked : List ℕ) → length known ≡ 2 ^ length sig
+    → AreNewGoals c sig known found → ((goal : ℕ) → Contains blocked goal ↔ IsSettled known found goal) → All (λ goal. goal < 2 ^ length sig) blocked
+blocked_below c sig known found blocked size news settled =
+    All-weaker (Contains blocked) (λ goal. goal < 2 ^ length sig) (λ goal has. settled_below c sig known found goal size news ((settled goal).0 has)) blocked
+    (All-contains_itself blocked)
+
+rising_apart : (goals : List ℕ) → IsStrictlyIncreasing goals → AllPairs (λ x y. x ≢ y) goals
+rising_apart goals rising = λ i j d l m e. (
+    let less : get_or goals i d < get_or goals j d = AllPairs-from_increasing goals rising i j d l m in
+    omega (arith, less, e)
+    )
+
+has_test : (goals : List ℕ) (q : ℕ) → Contains goals q → list_any (eqb q) goals ≡ true
+has_test goals q has = list_any_at (eqb q) goals has.0 q has.1 (eq-eqb q (get_or goals has.0 q) (sym has.2))
+
+-- there are as many goals in the list as there are at all
+pub all_settled : (c : Parts) (sig : List ℕ) (known : List Bool) (found : List FoundGoal) (blocked : List ℕ) → length known ≡ 2 ^ length sig
+    → AreNewGoals c sig known found → ((goal : ℕ) → Contains blocked goal ↔ IsSettled known found goal) → IsStrictlyIncreasing blocked
+    → length blocked ≡ 2 ^ length sig → AreAllSettled sig known found
+all_settled c sig known found blocked size news settled rising full = λ goal inside. (
+    (settled goal).0 (all_contained blocked (2 ^ length sig) goal (rising_apart blocked rising) (blocked_below c sig known found blocked size news settled) (omega (arith, full)) inside)
+    )
+
+-- there are fewer goals in the list, so one is left
+pub some_left : (c : Parts) (sig : List ℕ) (known : List Bool) (found : List FoundGoal) (blocked : List ℕ) → length known ≡ 2 ^ length sig
+    → AreNewGoals c sig known found → ((goal : ℕ) → Contains blocked goal ↔ IsSettled known found goal) → IsStrictlyIncreasing blocked
+    → length blocked ≢ 2 ^ length sig → ¬ AreAllSettled sig known found
+some_left c sig known found blocked size news settled rising other all =
+    let least : 2 ^ length sig ≤ length blocked = le-length_from_below blocked (2 ^ length sig) (λ q inside. has_test blocked q ((settled q).1 (all q inside))) in
+    let most : length blocked ≤ 2 ^ length sig = distinct_below blocked (2 ^ length sig) (rising_apart blocked rising) (blocked_below c sig known found blocked size news settled) in
+    other (omega (arith, least, most))
+
+-- ---- each goal is found once
+has_goal : (found : List FoundGoal) (k : ℕ) (d : FoundGoal) → k < length found → Contains (goals_of found) ((get_or found k d).goal)
+has_goal found k d l =
+    subst (Contains (goals_of found)) (get_or-map (λ (f : FoundGoal). f.goal) found k d d.goal l)
+    (Contains-get_or (goals_of found) k d.goal (omega (arith, length-map found (λ (f : FoundGoal). f.goal))))
+
+goals_apart : (found : List FoundGoal) → AllPairs (λ (f g : FoundGoal). f.goal ≢ g.goal) found → AllPairs (λ x y. x ≢ y) (goals_of found)
+goals_apart found once = λ i j d l m. (
+    let size = length-map found (λ (f : FoundGoal). f.goal) in
+    let f : FoundGoal = record { goal = d; step = 0; trace = record { start = []; rows = record { width = 0; rows = [] } } } in
+    rw (get_or-map (λ (x : FoundGoal). x.goal) found i f d (omega (arith, size)), get_or-map (λ (x : FoundGoal). x.goal) found j f d (omega (arith, size)))
+    (once i j f l (omega (arith, size)))
+    )
+
+-- so there are no more than goals at all
+pub few_found : (c : Parts) (sig : List ℕ) (known : List Bool) (found : List FoundGoal) → AreNewGoals c sig known found → length found ≤ 2 ^ length sig
+few_found c sig known found news =
+    let apart : AllPairs (λ x y. x ≢ y) (goals_of found) = goals_apart found news.once in
+    omega (
+      arith,
+      length-map found (λ (f : FoundGoal). f.goal),
+      distinct_below (goals_of found) (2 ^ length sig) apart
+          (All-map (λ g. g < 2 ^ length sig) (λ (f : FoundGoal). f.goal) found (found_below c sig known found news)),
+    )
+
+-- ---- a goal that is new at a step
+first_reached : (c : Parts) (sig : List ℕ) (known : List Bool) (step : ℕ) (found : List FoundGoal) (blocked : List ℕ) (goal : ℕ) (trace : Trace)
+    → IsSearched c sig known step found → ((g : ℕ) → Contains blocked g ↔ IsSettled known found g) → IsNewGoal c sig Reset step blocked goal trace
+    → IsFirstReached c sig (record { goal = goal; step = step; trace = trace })
+first_reached c sig known step found blocked goal trace searched settled new = record {
+  shows = new_replays_lem c sig step blocked goal trace new;
+  rows = ap length (sym new.rows) ∙ (length-map new.frames (input_values c) ∙ new.size);
+  least = λ d w. elim (cases_lt d step) [ inl lt ↦ absurd (new.unsettled ((settled goal).1 (searched.whole d goal lt w))) | inr ge ↦ ge ];
+}
+
+pub searched_new : (c : Parts) (sig : List ℕ) (known : List Bool) (step : ℕ) (found : List FoundGoal) (blocked : List ℕ) (goal : ℕ) (trace : Trace)
+    → IsSearched c sig known step found → ((g : ℕ) → Contains blocked g ↔ IsSettled known found g) → IsNewGoal c sig Reset step blocked goal trace
+    → IsSearched c sig known step (found ++ record { goal = goal; step = step; trace = trace } ∷ [])
+searched_new c sig known step found blocked goal trace searched settled new =
+    let f : FoundGoal = record { goal = goal; step = step; trace = trace } in
+    let news = searched.news in
+    let goals : goals_of (found ++ f ∷ []) ≡ goals_of found ++ goal ∷ [] = map_push (λ (x : FoundGoal). x.goal) found f in
+    let unsettled : ¬ IsSettled known found goal = λ s. new.unsettled ((settled goal).1 s) in
+    record {
+      news = record {
+        reached = All-push (IsFirstReached c sig) found f news.reached (first_reached c sig known step found blocked goal trace searched settled new);
+        new = All-push (λ (x : FoundGoal). ¬ IsMarked known x.goal) found f news.new (λ marked. unsettled (inl marked));
+        once = all_pairs_push (λ (x y : FoundGoal). x.goal ≢ y.goal) found f news.once (λ k d l e. unsettled (inr (subst (Contains (goals_of found)) e (has_goal found k d l))));
+        ordered = all_pairs_push (λ (x y : FoundGoal). x.step ≤ y.step) found f news.ordered (λ k d l. All-get_or (λ (x : FoundGoal). x.step ≤ step) found k d l searched.near);
+      };
+      near = All-push (λ (x : FoundGoal). x.step ≤ step) found f searched.near (omega arith);
+      whole = λ d g l w. elim (searched.whole d g l w) [
+        | inl marked ↦ inl marked
+        | inr has ↦ inr (subst (λ (gs : List ℕ). Contains gs g) (sym goals) (Contains-append_left (goals_of found) (goal ∷ []) g has))
+      ];
+      timely = λ all. inr (Any-push (λ (x : FoundGoal). x.step ≡ step) found f refl);
+    }
+
+-- ---- a step at which nothing more is new
+pub searched_whole : (c : Parts) (sig : List ℕ) (known : List Bool) (step lemmas : ℕ) (found : List FoundGoal) (blocked : List ℕ) (proof : List LratStep)
+    → IsSearched c sig known step found → ((g : ℕ) → Contains blocked g ↔ IsSettled known found g) → IsNoMore c sig Reset step blocked lemmas proof
+    → ¬ AreAllSettled sig known found → IsSearched c sig known (step + 1) found
+searched_whole c sig known step lemmas found blocked proof searched settled none left = record {
+  news = searched.news;
+  near = All-weaker (λ (f : FoundGoal). f.step ≤ step) (λ (f : FoundGoal). f.step ≤ step + 1) (λ f l. omega arith) found searched.near;
+  whole = λ d g l w. elim (cases_lt w.t step) [
+    | inl lt ↦ searched.whole w.t g lt (record { state = w.state; reset = w.reset; t = w.t; near = omega arith; at = w.at })
+    | inr ge ↦ (
+        let now : w.t ≡ step = omega (arith, w.near) in
+        (settled g).0 (none.all_settled w.state g w.reset (subst (λ (t : ℕ). At c sig w.state t g) now w.at))
+        )
+  ];
+  timely = λ all. absurd (left all);
+}

@@ -1,0 +1,9 @@
+use Rattle.std.proofs.Common.{◌^◌, ◌-◌, length}
+use Rattle.sweep_search.specs.Steps.{IsSearched}
+use Rattle.sweep_search.proofs.search.search_step.Given as goal
+
+abbrev pub invariant-queries : goal.invariant-queries
+invariant-queries l = IsSearched l.circuit l.signals.lits l.known l.step l.found
+
+abbrev pub decreases-queries : goal.decreases-queries
+decreases-queries l = 2 ^ length l.signals.lits - length l.found

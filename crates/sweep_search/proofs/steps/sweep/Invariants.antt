@@ -1,0 +1,12 @@
+use Rattle.std.proofs.Common.{◌<◌, ◌≤◌, All}
+use Rattle.sweep_search.specs.Sweep.{AreAllSettled}
+use Rattle.sweep_search.specs.Steps.{IsSearched}
+use Rattle.sweep_search.specs.declared.swept.FoundGoal.{FoundGoal}
+use Rattle.sweep_search.proofs.steps.sweep.Given as goal
+
+abbrev pub invariant-loop-step : goal.invariant-loop-step
+invariant-loop-step l = record {
+  searched : IsSearched l.circuit l.signals.lits l.known l.step l.found;
+  left : 0 < l.step → ¬ AreAllSettled l.signals.lits l.known l.found;
+  shallow : All (λ (f : FoundGoal). f.step ≤ l.depth) l.found;
+}

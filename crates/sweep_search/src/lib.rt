@@ -1,0 +1,10 @@
+//! The sweep: every goal that is reached within so many steps from reset.
+#![tactic(auto)]
+
+mod blocked;
+mod search;
+mod steps;
+mod swept;
+
+pub use steps::sweep;
+pub use swept::{FoundGoal, FoundGoals, SpentQuery, Swept};

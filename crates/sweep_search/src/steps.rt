@@ -1,0 +1,52 @@
+//! The sweep, step by step from reset.
+
+ghost use Rattle.std.specs.Prelude.{◌≡◌, ◌≤◌, ◌+◌, ◌^◌, length, IfOk};
+ghost use Rattle.unroll.specs.Frames.{vars_before};
+ghost use Rattle.sweep_search.specs.Sweep.{IsSweep, steps_up_to};
+
+use crate::search::{StepEnd, search_step};
+use crate::swept::{FoundGoals, SpentQuery, Swept};
+use aig_model::{Bits, Circuit, Signals};
+use ketch_base::OutOfMemory;
+use std::alloc::Global;
+
+/// What was found, after so many steps that were searched whole.
+fn swept(found: FoundGoals, whole: u32, spent: Option<SpentQuery>) -> Swept
+    ensures found { result.found ≡ found }
+    ensures upto { steps_up_to result.upto ≡ whole }
+    ensures spent { result.spent ≡ spent }
+{
+    Swept {
+        found,
+        upto: whole.checked_sub(1),
+        spent,
+    }
+}
+
+/// Finds every goal that is reached within `depth` steps from reset and isn't known yet, step by step, or stops at the
+/// first query that needs more than so many lemmas. `known` has a value for each goal, true where it is settled already.
+pub fn sweep(
+    alloc: Global,
+    circuit: &Circuit,
+    signals: &Signals,
+    known: &Bits,
+    depth: u32,
+    lemmas: u64,
+) -> Result<Swept, OutOfMemory>
+    requires circuit { signals.now.circuit ≡ circuit.now }
+    requires goals { length known.now ≡ 2 ^ length signals.now.lits }
+    requires room { vars_before circuit.now (depth + 1) ≤ 4000000 }
+    requires some { 1 ≤ lemmas }
+    requires few { lemmas ≤ 2 ^ 60 }
+    ensures { IfOk result (IsSweep circuit.now signals.now.lits known.now depth lemmas) }
+{
+    let mut found = FoundGoals::new(alloc);
+    for step in 0..depth + 1 {
+        match search_step(alloc, circuit, signals, known, step, lemmas, &mut found)? {
+            StepEnd::Whole => {}
+            StepEnd::AllSettled => return Ok(swept(found, step, None)),
+            StepEnd::Spent(query) => return Ok(swept(found, step, Some(query))),
+        }
+    }
+    Ok(swept(found, depth + 1, None))
+}

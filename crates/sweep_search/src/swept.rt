@@ -1,0 +1,32 @@
+//! What a sweep finds.
+
+use aig_model::{Goals, Trace};
+use ketch_base::Sequence;
+use lrat_text::Proof;
+
+/// A goal, the least step at which it is reached from reset, and a trace of `step + 1` rows that shows it.
+#[derive(Debug, Drop)]
+pub struct FoundGoal {
+    pub goal: u32,
+    pub step: u32,
+    pub trace: Trace,
+}
+
+pub type FoundGoals = Sequence<FoundGoal>;
+
+/// The query of one step that ran out of lemmas, with the goals that it left out.
+#[derive(Debug, Drop)]
+pub struct SpentQuery {
+    pub step: u32,
+    pub blocked: Goals,
+    pub proof: Proof,
+}
+
+/// The goals that are new, in the order in which they were found. `upto` is the last step that was searched until
+/// nothing was new there; None where there is none. `spent` is the query at which the sweep stopped, if one ran out.
+#[derive(Debug, Drop)]
+pub struct Swept {
+    pub found: FoundGoals,
+    pub upto: Option<u32>,
+    pub spent: Option<SpentQuery>,
+}
