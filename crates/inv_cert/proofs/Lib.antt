@@ -1,0 +1,4 @@
+pub mod Causes
+pub mod Errors
+pub mod Invariance
+pub mod Resets
