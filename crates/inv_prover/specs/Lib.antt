@@ -1,0 +1,6 @@
+pub mod Answers
+pub mod Candidates
+pub mod Dependents
+pub mod Greatest
+pub mod Laws
+pub mod Search
