@@ -1,0 +1,13 @@
+pub mod Begins
+pub mod BestSeed
+pub mod Drawn
+pub mod EachLane
+pub mod LaneGoals
+pub mod Lanes
+pub mod Overs
+pub mod Seeded
+pub mod Shown
+pub mod SoFar
+pub mod Stepping
+pub mod Subsets
+pub mod Traced

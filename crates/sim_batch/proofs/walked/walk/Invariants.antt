@@ -1,0 +1,18 @@
+use Rattle.std.proofs.Common.{◌≡◌, ◌+◌, ◌*◌, ◌^◌, ℕ, ◌<◌, length}
+use Rattle.std.specs.Prelude.{option_copied}
+use Rattle.sim_batch.specs.Batch.{lanes_of, start_bits}
+use Rattle.sim_batch.specs.Ends.{IsOver}
+use Rattle.sim_batch.specs.Steps.{AreWalks, VisitsBefore}
+use Rattle.sim_batch.specs.Words.{after_words, batch_generator}
+use Rattle.sim_batch.proofs.walked.walk.Given as goal
+
+abbrev pub invariant-loop-step : goal.invariant-loop-step
+invariant-loop-step l = record {
+  words : length l.words.items ≡ length l.circuit.inputs;
+  size : length l.lanes.items ≡ 64;
+  goals : l.visits.goals ≡ 2 ^ length l.signals.lits;
+  generator : l.generator ≡ after_words (batch_generator l.options.seed l.batch) (start_bits l.circuit (option_copied l.from) + l.step * length l.circuit.inputs);
+  walks : AreWalks l.circuit l.signals.lits (lanes_of l.circuit l.options.seed l.batch (option_copied l.from)) l.step l.lanes.items;
+  so_far : VisitsBefore l.circuit l.signals.lits (lanes_of l.circuit l.options.seed l.batch (option_copied l.from)) l.step 0 l.visits.visits;
+  going : (s : ℕ) → s < l.step → ¬ IsOver l.circuit l.signals.lits (lanes_of l.circuit l.options.seed l.batch (option_copied l.from)) l.options.stall s;
+}
