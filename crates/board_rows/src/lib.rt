@@ -1,7 +1,11 @@
-//! Rows of a board, as tests: its core step by step, and histories with their faults.
+//! Rows of a board, as tests: its core step by step, histories and their faults, the desk of jobs and the pool of seeds on threads.
 #![tactic(auto)]
 
 #[cfg(test)]
 mod core_rows;
 #[cfg(test)]
+mod desk_rows;
+#[cfg(test)]
 mod history_rows;
+#[cfg(test)]
+mod pool_rows;
