@@ -1,0 +1,7 @@
+pub mod Sums
+pub mod Truth
+pub mod Steps
+pub mod Seats
+pub mod Posts
+pub mod NewPasses
+pub mod Sent

@@ -1,0 +1,68 @@
+-- What boards and passes are made of.
+use Rattle.std.specs.Prelude.{◌≡◌, ◌≢◌, ℕ, ◌+◌, ◌<◌, ◌≤◌, Bool, true, false, List, [], None, length, map, get_or, All}
+use Rattle.std.specs.Vec.{vec_capacity}
+use Rattle.std.specs.declared.vec.Vec.{Vec}
+use Rattle.std.specs.Global.{Global}
+use Rattle.atomic_table.specs.Seated.{TableId}
+use Rattle.aig_model.specs.SignalList.{SignalList}
+use Rattle.board_core.specs.declared.entry.Entry.{Entry}
+use Rattle.inv_cert.specs.Evidences.{kind_of}
+use Rattle.goal_board.specs.declared.view.View.{View}
+use Rattle.goal_board.specs.declared.view.Terms.{Terms}
+use Rattle.goal_board.specs.declared.pass.Posted.{Posted}
+use Rattle.goal_board.specs.Lists.{trues}
+use Rattle.goal_board.specs.Rule.{Sat}
+use Rattle.board_core.specs.Core.{fresh_view}
+use Rattle.goal_board.specs.Passes.{PassState}
+
+pub record IsBoardTable (table : TableId) (terms : Terms) : Type 0 where
+  pub words : table.words ≡ terms.goals + 1
+  pub slots : table.slots ≡ 0
+  pub callers : 0 < terms.callers
+
+abbrev pub pass_state : SignalList → List Bool → List Posted → TableId → View → PassState
+pass_state signals posted posts table v = record {
+  table = table;
+  terms = v.terms;
+  signals = signals;
+  goals = length posted;
+  caller = v.caller;
+  known = v.known;
+  evidence = map (λ (p : Posted). p.evidence) posts;
+}
+
+-- the evidence is for these signals, and of the entry's goal and kind
+pub record IsEvidenced (signals : SignalList) (p : Posted) : Type 0 where
+  pub signals_are : p.evidence.signals ≡ signals
+  pub goal : p.evidence.goal ≡ p.entry.goal
+  pub kind : kind_of p.evidence.basis ≡ p.entry.kind
+
+-- a pass between two calls
+pub record IsPass (posts : Vec Posted Global) (posted : List Bool) (by front : ℕ) (signals : SignalList) (me : Sat) : Type 0 where
+  pub parts : me.0.parts ≡ 1
+  pub slots : me.1 ≡ []
+  pub caller : me.0.caller ≡ by
+  pub idle : me.0.known.unmarked ≡ None
+  pub front_is : me.0.known.front ≡ front
+  pub entries : me.0.known.entries ≡ map (λ (p : Posted). p.entry) posts.items
+  pub own : All (λ (e : Entry). e.caller ≡ by) me.0.known.entries
+  -- the flags say for which goals it posted, and how many are true is how many it posted
+  pub flagged : All (λ (e : Entry). get_or posted e.goal false ≡ true) me.0.known.entries
+  pub real : (goal : ℕ) → get_or posted goal false ≡ true → ¬ All (λ (e : Entry). e.goal ≢ goal) me.0.known.entries
+  pub counted : trues posted ≡ length posts.items
+  -- so there is room for each post that it may still make
+  pub left : length posts.items + me.0.left ≡ length posted
+  pub room : length posted ≤ vec_capacity posts
+  pub evidenced : All (IsEvidenced signals) posts.items
+
+-- a view with which a caller begins
+pub record IsFreshView (by goals : ℕ) (v : View) : Type 0 where
+  pub parts : v.parts ≡ 1
+  pub caller : v.caller ≡ by
+  pub known : v.known ≡ fresh_view
+  pub left : v.left ≡ goals
+
+-- the passes' list has room for as many as it was made with
+pub record ArePasses (passes : Vec PassState Global) (room : ℕ) : Type 0 where
+  pub few : length passes.items ≤ room
+  pub capacity : room ≤ vec_capacity passes

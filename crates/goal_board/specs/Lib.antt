@@ -1,0 +1,5 @@
+pub mod Lists
+pub mod Found
+pub mod Rule
+pub mod Passes
+pub mod Inside

@@ -1,0 +1,78 @@
+-- Boards and passes, as contracts see them.
+use Rattle.std.specs.Prelude.{◌≡◌, ◌≢◌, ℕ, ◌+◌, ◌<◌, max, List, [], length, All, AllPairs, Option, Some, None}
+use Rattle.atomic_table.specs.Seated.{TableId}
+use Rattle.aig_model.specs.SignalList.{SignalList}
+use Rattle.board_core.specs.declared.entry.Entry.{Entry}
+use Rattle.board_core.specs.declared.entry.Source.{Source}
+use Rattle.board_core.specs.declared.view.GoalMark.{GoalMark}
+use Rattle.board_core.specs.declared.view.View.{View as Known}
+use Rattle.board_core.specs.History.{kind_of}
+use Rattle.board_core.specs.Core.{fresh_view}
+use Rattle.inv_cert.specs.Evidences.{Evidence}
+use Rattle.goal_board.specs.declared.view.Terms.{Terms}
+use Rattle.goal_board.specs.declared.calls.Look.{Look}
+use Rattle.goal_board.specs.declared.calls.Look.TheVariants as looks
+
+-- a board: no other has its table; its terms are the signals, the options, and how many goals and callers there are
+pub record BoardState : Type 0 where
+  pub table : TableId
+  pub terms : Terms
+
+-- a pass: its board's table, terms, signals and number of goals; its caller, what that knows, and the evidence that it posted, in order
+pub record PassState : Type 0 where
+  pub table : TableId
+  pub terms : Option Terms
+  pub signals : SignalList
+  pub goals : ℕ
+  pub caller : ℕ
+  pub known : Known
+  pub evidence : List Evidence
+
+-- the passes at hand, and how many passes the list was made with
+pub record PassesState : Type 0 where
+  pub passes : List PassState
+  pub room : ℕ
+
+-- a caller's pass before its first call
+abbrev pub new_pass : BoardState → ℕ → PassState
+new_pass board caller = record {
+  table = board.table;
+  terms = Some board.terms;
+  signals = board.terms.signals.value;
+  goals = board.terms.goals;
+  caller = caller;
+  known = fresh_view;
+  evidence = [];
+}
+
+-- the pass is one of the board's
+pub record IsPassOf (board : BoardState) (pass : PassState) : Type 0 where
+  pub table : pass.table ≡ board.table
+  pub terms : pass.terms ≡ Some board.terms
+  pub signals : pass.signals ≡ board.terms.signals.value
+  pub goals : pass.goals ≡ board.terms.goals
+
+-- the passes are all those of the board, in any order
+pub record AreAllOf (board : BoardState) (s : PassesState) : Type 0 where
+  pub of_board : All (IsPassOf board) s.passes
+  pub count : length s.passes ≡ board.terms.callers
+  pub distinct : AllPairs (λ (a b : PassState). a.caller ≢ b.caller) s.passes
+  pub room : s.room ≡ board.terms.callers
+
+-- the goal is in range, and the caller hasn't posted for it
+pub record MayPost (pass : PassState) (goal : ℕ) : Type 0 where
+  pub range : goal < pass.goals
+  pub new : All (λ (e : Entry). e.goal ≢ goal) pass.known.entries
+
+-- the entry of a post
+abbrev pub posted_entry : ℕ → ℕ → Source → ℕ → ℕ → Entry
+posted_entry caller goal source number low = record { number = number; caller = caller; goal = goal; kind = kind_of source; source = source; low = low }
+
+-- what a look tells that finds this mark, and how much of the history is seen after it
+abbrev pub look_of : Option GoalMark → Look
+look_of None = looks.Unsettled
+look_of (Some m) = looks.Settled m.kind
+
+abbrev pub front_after : ℕ → Option GoalMark → ℕ
+front_after front None = front
+front_after front (Some m) = max front (m.number + 1)
