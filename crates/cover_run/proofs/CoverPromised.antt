@@ -4,7 +4,7 @@ use Rattle.std.specs.Prelude.{◌⊎◌}
 use Rattle.std.proofs.lemmas.Bool.Decides.{nat_tests}
 use Rattle.aig_model.specs.declared.parts.Parts.{Parts}
 use Rattle.sim_walk.specs.declared.options.Options.{Options}
-use Rattle.aig_ascii.specs.Aag.{SpellsCircuit}
+use Rattle.cover_run.specs.CircuitText.{SpellsCircuit}
 use Rattle.signal_list.specs.SignalText.{SpellsSignals}
 use Rattle.signal_list.proofs.OneReading as signals_text
 use Rattle.cover_run.specs.declared.stop.File.TheVariants as files

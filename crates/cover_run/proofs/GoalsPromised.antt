@@ -2,7 +2,7 @@
 use Rattle.std.proofs.Common.{◌≡◌, ℕ, Bool, List, Some, inl, inr, ◌∙◌, ap, subst}
 use Rattle.std.specs.Prelude.{◌⊎◌}
 use Rattle.aig_model.specs.declared.parts.Parts.{Parts}
-use Rattle.aig_ascii.specs.Aag.{SpellsCircuit}
+use Rattle.cover_run.specs.CircuitText.{SpellsCircuit}
 use Rattle.signal_list.specs.SignalText.{SpellsSignals}
 use Rattle.signal_list.proofs.OneReading as signals_text
 use Rattle.cover_run.specs.declared.stop.File.TheVariants as files

@@ -1,4 +1,5 @@
 pub mod Behind
+pub mod CircuitTexts
 pub mod CoverPromised
 pub mod Exported
 pub mod Filled
@@ -12,6 +13,7 @@ pub mod Promised
 pub mod Reading
 pub mod ReplayPromised
 pub mod ReplayRead
+pub mod Rooms
 pub mod Stopped
 pub mod SubjectPromised
 pub mod Told

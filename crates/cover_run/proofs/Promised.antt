@@ -3,7 +3,7 @@ use Rattle.std.proofs.Common.{◌≡◌, ◌↔◌, ℕ, ◌<◌, ◌≤◌, Boo
 use Rattle.std.specs.Prelude.{◌⊎◌, IsSomeAnd}
 use Rattle.std.proofs.lemmas.Option.{none-some}
 use Rattle.run_io.specs.Desk.{FileGiven, HasSameFaults}
-use Rattle.aig_ascii.specs.declared.fault.AagKind.{AagKind}
+use Rattle.cover_run.specs.declared.stop.CircuitKind.{CircuitKind}
 use Rattle.signal_list.specs.declared.fault.SigKind.{SigKind}
 use Rattle.cover_run.specs.declared.stop.File.{File}
 use Rattle.cover_run.specs.declared.stop.Measure.{Measure}
@@ -51,13 +51,13 @@ Says command d out err statuses.Open = ⊥
 Says command d out err statuses.Usage = command ≡ Usage
 Says command d out err statuses.ReadFault =
     (f : File) × IsSomeAnd (name_of command f) (HasFaulted d) × HasFailed (files_of command) d f × TookWhatItCould err (line_of (stops.Unreadable f))
-Says command d out err statuses.BadCircuit = (at : ℕ) × (kind : AagKind) × HasBadCircuit command d at kind × TookWhatItCould err (line_of (stops.BadCircuit at kind))
+Says command d out err statuses.BadCircuit = (at : ℕ) × (kind : CircuitKind) × HasBadCircuit command d at kind × TookWhatItCould err (line_of (stops.BadCircuit at kind))
 Says command d out err statuses.BadSignals = (line : ℕ) × (kind : SigKind) × HasBadSignals command d line kind × TookWhatItCould err (line_of (stops.BadSignals line kind))
 Says command d out err statuses.Limit =
     ((f : File) × IsSomeAnd (name_of command f) (IsTooLong d f) × IsPast (files_of command) d f × TookWhatItCould err (line_of (stops.TooLong f)))
     ⊎ ((m : Measure) × IsTooLarge command d m × IsWithin (files_of command) d × TookWhatItCould err (line_of (stops.TooLarge m)))
 Says command d out err statuses.WriteFault = Failed out × IsPartial command d out
-Says command d out err statuses.WantOfMemory = Unit {0}
+Says command d out err statuses.OutOfMemory = Unit {0}
 Says command d out err statuses.Refused = (why : Refusal) × IsRefused command d why × TookWhatItCould err (line_of (stops.Refused why))
 
 says : (command : Meaning) (d : DeskSeen) (out err : SinkSeen) (stop : Stop) → IsStopped command d out stop → TookWhatItCould err (line_of stop) → Says command d out err (status_of stop)

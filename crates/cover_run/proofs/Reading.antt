@@ -16,7 +16,8 @@ use Rattle.cover_run.specs.Answer.{EarlyCause, IsReached}
 use Rattle.cover_run.specs.Checking.{HasFormulaFault}
 use Rattle.aig_model.specs.declared.parts.Parts.{Parts}
 use Rattle.signal_list.specs.SignalText.{IsFirstFault as IsFirstInSignals}
-use Rattle.cover_run.specs.Covering.{HasCircuit, HasSomeCircuit, HasCircuitFault}
+use Rattle.cover_run.specs.CircuitText.{IsFirstFault as IsFirstInCircuit}
+use Rattle.cover_run.specs.Covering.{HasCircuit, HasSomeCircuit}
 use Rattle.cover_run.specs.Files.{NamedFile, name_of, limit_of, AreWithin, IsReadToEnd, AreRead, EndsAt, EndsFailed, EndsPast, IsWithin, IsFine, IsAllRead, HasRead, IsTooLong}
 use Rattle.cover_run.specs.Seen.{DeskSeen, seen, HasText, HasFaulted, Gave}
 use Rattle.cover_run.specs.Steps.{IsPartRead, PartCause, SubjectCause, FormulaCause, CircuitCause, SignalsCause}
@@ -251,18 +252,18 @@ formula_refused call d bytes read (stops.Refused (refusals.Trace misfit)) is sho
 formula_refused call d bytes read stops.CannotWrite is short told cause = absurd cause
 formula_refused call d bytes read stops.OutOfMemory is short told cause = λ e. cc
 
-pub circuit_refused : (s : Subject) (d : DeskSeen) (bytes read : List ℕ) (stop : Stop) → read ≡ bytes → IfSome (d.old.text s.circuit) (λ t. bytes ≡ t) → CircuitCause read stop
+pub circuit_refused : (s : Subject) (d : DeskSeen) (bytes read : List ℕ) (stop : Stop) → read ≡ bytes → length bytes ≤ limit_of files.Circuit → IfSome (d.old.text s.circuit) (λ t. bytes ≡ t) → CircuitCause read stop
     → SubjectCause s d stop
-circuit_refused s d bytes read stops.Usage is told cause = absurd cause
-circuit_refused s d bytes read (stops.Unreadable f) is told cause = absurd cause
-circuit_refused s d bytes read (stops.TooLong f) is told cause = absurd cause
-circuit_refused s d bytes read (stops.TooLarge m) is told cause = absurd cause
-circuit_refused s d bytes read (stops.BadCircuit at kind) is told cause =
-    record { text = bytes; told = told; has = subst (HasCircuitFault at kind) is cause }
-circuit_refused s d bytes read (stops.BadSignals line kind) is told cause = absurd cause
-circuit_refused s d bytes read (stops.Refused why) is told cause = absurd cause
-circuit_refused s d bytes read stops.CannotWrite is told cause = absurd cause
-circuit_refused s d bytes read stops.OutOfMemory is told cause = tt
+circuit_refused s d bytes read stops.Usage is short told cause = absurd cause
+circuit_refused s d bytes read (stops.Unreadable f) is short told cause = absurd cause
+circuit_refused s d bytes read (stops.TooLong f) is short told cause = absurd cause
+circuit_refused s d bytes read (stops.TooLarge m) is short told cause = absurd cause
+circuit_refused s d bytes read (stops.BadCircuit at kind) is short told cause =
+    record { text = bytes; told = told; has = record { short = short; first = subst (λ (xs : List ℕ). IsFirstInCircuit xs at kind) is cause } }
+circuit_refused s d bytes read (stops.BadSignals line kind) is short told cause = absurd cause
+circuit_refused s d bytes read (stops.Refused why) is short told cause = absurd cause
+circuit_refused s d bytes read stops.CannotWrite is short told cause = absurd cause
+circuit_refused s d bytes read stops.OutOfMemory is short told cause = tt
 
 pub signals_refused : (s : Subject) (d : DeskSeen) (c : Parts) (bytes read : List ℕ) (stop : Stop) → read ≡ bytes → length bytes ≤ limit_of files.Signals → HasCircuit s d c
     → IfSome (d.old.text s.signals) (λ t. bytes ≡ t) → SignalsCause c read stop → SubjectCause s d stop

@@ -1,14 +1,13 @@
 -- What the answer of a replay command promises.
-use Rattle.std.proofs.Common.{◌≡◌, ◌≢◌, ℕ, ◌<◌, ◌≤◌, Bool, List, length, Some, inl, inr, refl, sym, ◌∙◌, ap, subst, arith}
+use Rattle.std.proofs.Common.{◌≡◌, ℕ, ◌<◌, ◌≤◌, Bool, List, length, Some, inl, inr, refl, ◌∙◌, ap, subst, arith}
 use Rattle.std.specs.Prelude.{◌⊎◌}
-use Rattle.aig_model.specs.Meaning.{IsReset}
 use Rattle.aig_model.specs.Replays.{Shows}
 use Rattle.aig_model.specs.WellFormed.{IsCircuit}
 use Rattle.aig_model.specs.declared.parts.Parts.{Parts}
 use Rattle.aig_eval.specs.Replay.{StartsWrong, FailsAt}
 use Rattle.aig_eval.proofs.Lists.{first_once}
 use Rattle.aig_eval.proofs.Replays.{reset_not_wrong, shown_not_failing, shown_once}
-use Rattle.aig_ascii.proofs.Texts.{is-circuit}
+use Rattle.cover_run.proofs.CircuitTexts.{is-circuit}
 use Rattle.wit_text.specs.WitnessText.{SpellsWitness, IsFirstFault as IsFirstInWitness}
 use Rattle.wit_text.specs.declared.fault.WitKind.{WitKind}
 use Rattle.wit_text.specs.declared.witness.Witness.{Witness}
@@ -25,7 +24,7 @@ use Rattle.cover_run.specs.Covering.{HasCircuit, HasSignals}
 use Rattle.cover_run.specs.Files.{limit_of}
 use Rattle.cover_run.specs.Promises.{IsTold, IsToldTooLong, Accepts, IsToldSubject, SpellsReplay, IsUndisturbed, IsReplayed, ReplayedCause, ReplayedComes, LongWitnessComes, BadWitnessComes, MisfitComes}
 use Rattle.cover_run.specs.Replaying.{IsWitnessText, HasWitnessFault, HasWitness, IsMisfit, IsReplayOutput, replay_line}
-use Rattle.cover_run.specs.Seen.{DeskSeen, SinkSeen, HasText, Failed, Took}
+use Rattle.cover_run.specs.Seen.{DeskSeen, SinkSeen, HasText, Took}
 use Rattle.cover_run.specs.Stops.{status_of, settled_status}
 use Rattle.cover_run.specs.Words.{ReplayCall, Meaning, Replay}
 use Rattle.cover_run.proofs.GoalsPromised.{moved}

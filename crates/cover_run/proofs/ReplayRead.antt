@@ -1,10 +1,9 @@
 -- What is known of a witness that was read, and why a replay command stops once its files were read.
-use Rattle.std.proofs.Common.{◌≡◌, ℕ, suc, ◌+◌, ◌^◌, ◌<◌, ◌≤◌, Bool, List, [], ◌∷◌, ◌++◌, length, IfSome, refl, ap, ◌∙◌, subst, arith, length-append}
+use Rattle.std.proofs.Common.{◌≡◌, ℕ, suc, ◌^◌, ◌<◌, ◌≤◌, Bool, List, [], ◌∷◌, length, IfSome, refl, ap, ◌∙◌, subst, arith, length-append}
 use Rattle.std.specs.Prelude.{codes}
 use Rattle.std.specs.List.{AllZip}
 use Rattle.text_words.specs.Lines.{lines}
 use Rattle.aig_model.specs.declared.parts.Parts.{Parts}
-use Rattle.aig_model.specs.Replays.{Shows}
 use Rattle.aig_eval.specs.Replay.{HasShape}
 use Rattle.wit_text.specs.WitnessText.{SpellsBit, SpellsBits, SpellsWitness, IsFirstFault as IsFirstInWitness}
 use Rattle.wit_text.specs.declared.witness.Witness.{Witness}
@@ -15,7 +14,7 @@ use Rattle.cover_run.specs.declared.stop.Stop.TheVariants as stops
 use Rattle.cover_run.specs.Answer.{EarlyCause}
 use Rattle.cover_run.specs.Covering.{HasCircuit, HasSignals}
 use Rattle.cover_run.specs.Files.{limit_of}
-use Rattle.cover_run.specs.Replaying.{IsWitnessText, HasWitness}
+use Rattle.cover_run.specs.Replaying.{HasWitness}
 use Rattle.cover_run.specs.Seen.{DeskSeen}
 use Rattle.cover_run.specs.Steps.{WitnessCause, MisfitCause}
 use Rattle.cover_run.specs.Words.{ReplayCall, Replay}

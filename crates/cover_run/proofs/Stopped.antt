@@ -10,7 +10,7 @@ use Rattle.lrat_text.specs.declared.fault.LratKind.{LratKind}
 use Rattle.lrat_text.specs.declared.proof.LratStep.{LratStep}
 use Rattle.lrat_check.specs.declared.fault.ProofKind.{ProofKind}
 use Rattle.lrat_check.specs.FirstFault.{first_fault}
-use Rattle.aig_ascii.specs.declared.fault.AagKind.{AagKind}
+use Rattle.cover_run.specs.declared.stop.CircuitKind.{CircuitKind}
 use Rattle.signal_list.specs.declared.fault.SigKind.{SigKind}
 use Rattle.cover_run.specs.declared.stop.File.TheVariants as files
 use Rattle.cover_run.specs.declared.stop.Measure.{Measure}
@@ -35,7 +35,7 @@ use Rattle.cover_run.specs.Words.{Subject, CoverCall, ReplayCall, LratCall, Mean
 pub data ReadStops (s : Subject) (d : DeskSeen) (stop : Stop) : Type 0 where
   circuit_unreadable : HasFaulted d s.circuit → ReadStops s d stop
   circuit_long : stop ≡ stops.TooLong files.Circuit → IsTooLong d files.Circuit s.circuit → ReadStops s d stop
-  bad_circuit : (at : ℕ) (kind : AagKind) → stop ≡ stops.BadCircuit at kind → RefusesCircuit s d at kind → ReadStops s d stop
+  bad_circuit : (at : ℕ) (kind : CircuitKind) → stop ≡ stops.BadCircuit at kind → RefusesCircuit s d at kind → ReadStops s d stop
   signals_unreadable : HasSomeCircuit s d → HasFaulted d s.signals → ReadStops s d stop
   signals_long : stop ≡ stops.TooLong files.Signals → HasSomeCircuit s d → IsTooLong d files.Signals s.signals → ReadStops s d stop
   bad_signals : (line : ℕ) (kind : SigKind) → stop ≡ stops.BadSignals line kind → RefusesSignals s d line kind → ReadStops s d stop

@@ -2,11 +2,9 @@
 use Rattle.std.proofs.Common.{◌≡◌, ℕ, ◌<◌, ◌≤◌, List, length, Some, inl, inr, ◌∙◌, ap, subst, arith}
 use Rattle.std.specs.Prelude.{◌⊎◌}
 use Rattle.aig_model.specs.declared.parts.Parts.{Parts}
-use Rattle.aig_ascii.specs.Aag.{SpellsCircuit, IsFirstFault as IsFirstInCircuit, demands}
-use Rattle.aig_ascii.specs.declared.fault.AagKind.{AagKind}
-use Rattle.aig_ascii.proofs.RightParts.{text-apart}
-use Rattle.aig_ascii.proofs.FirstFaults.{none-unmet}
-use Rattle.aig_ascii.proofs.CircuitsAndFaults.{one-circuit, one-fault, no-fault}
+use Rattle.cover_run.specs.CircuitText.{SpellsCircuit, IsFirstFault as IsFirstInCircuit}
+use Rattle.cover_run.specs.declared.stop.CircuitKind.{CircuitKind}
+use Rattle.cover_run.proofs.CircuitTexts.{one-circuit, one-fault, no-fault}
 use Rattle.signal_list.specs.SignalText.{SpellsSignals, IsFirstFault as IsFirstInSignals}
 use Rattle.signal_list.specs.declared.fault.SigKind.{SigKind}
 use Rattle.signal_list.proofs.OneReading as signals_text
@@ -28,18 +26,15 @@ use Rattle.cover_run.proofs.Stopped.{ReadStops, circuit_unreadable, circuit_long
 told_circuit : (s : Subject) (d : DeskSeen) (c : Parts) (t : List ℕ) → d.old.text s.circuit ≡ Some t → HasCircuit s d c → IsCircuitText c t
 told_circuit s d c t told has = text-at d s.circuit t (IsCircuitText c) told has
 
-told_fault : (s : Subject) (d : DeskSeen) (t : List ℕ) (at : ℕ) (kind : AagKind) → d.old.text s.circuit ≡ Some t → RefusesCircuit s d at kind → HasCircuitFault at kind t
+told_fault : (s : Subject) (d : DeskSeen) (t : List ℕ) (at : ℕ) (kind : CircuitKind) → d.old.text s.circuit ≡ Some t → RefusesCircuit s d at kind → HasCircuitFault at kind t
 told_fault s d t at kind told refused = text-at d s.circuit t (HasCircuitFault at kind) told refused
 
 -- a text with a first fault spells no circuit
-told_none : (s : Subject) (d : DeskSeen) (t : List ℕ) (at : ℕ) (kind : AagKind) → d.old.text s.circuit ≡ Some t → IsFirstInCircuit t at kind → HasSomeCircuit s d → ⊥
+told_none : (s : Subject) (d : DeskSeen) (t : List ℕ) (at : ℕ) (kind : CircuitKind) → d.old.text s.circuit ≡ Some t → IsFirstInCircuit t at kind → HasSomeCircuit s d → ⊥
 told_none s d t at kind told first (c, has) = no-fault t c at kind (told_circuit s d c t told has).spells first
 
-one_circuit : (t : List ℕ) (e c : Parts) → SpellsCircuit t e → SpellsCircuit t c → e ≡ c
-one_circuit t e c s = one-circuit t e c (text-apart t (none-unmet (demands t) s.right)) s
-
 pub same_told : (s : Subject) (d : DeskSeen) (t : List ℕ) (c e : Parts) → d.old.text s.circuit ≡ Some t → SpellsCircuit t c → HasCircuit s d e → e ≡ c
-same_told s d t c e told spells has = one_circuit t e c (told_circuit s d e t told has).spells spells
+same_told s d t c e told spells has = one-circuit t e c (told_circuit s d e t told has).spells spells
 
 pub signals_spelled : (s : Subject) (d : DeskSeen) (t u : List ℕ) (c e : Parts) (sig : List ℕ) → d.old.text s.circuit ≡ Some t → SpellsCircuit t c → d.old.text s.signals ≡ Some u
     → HasCircuit s d e → HasSignals s d e sig → IsSignalsText c sig u
@@ -53,24 +48,24 @@ signals_fault s d t u c line kind told spells told_u (e, has, fault) =
     (text-at d s.signals u (HasSignalsFault e line kind) told_u fault)
 
 -- ---- a circuit with a fault
-bad_circuit_stops : (s : Subject) (d : DeskSeen) (stop : Stop) (t : List ℕ) (at : ℕ) (kind : AagKind) → IsTold d files.Circuit s.circuit t → IsFirstInCircuit t at kind
+bad_circuit_stops : (s : Subject) (d : DeskSeen) (stop : Stop) (t : List ℕ) (at : ℕ) (kind : CircuitKind) → IsTold d files.Circuit s.circuit t → IsFirstInCircuit t at kind
     → ReadStops s d stop → stop ≡ stops.BadCircuit at kind
 bad_circuit_stops s d stop t at kind told first (circuit_unreadable h) = absurd (told.no_fault h)
 bad_circuit_stops s d stop t at kind told first (circuit_long e h) = absurd (told_long d files.Circuit s.circuit t told.told told.short h)
 bad_circuit_stops s d stop t at kind told first (bad_circuit m k e h) =
     let same = one-fault t m at k kind (told_fault s d t m k told.told h).first first in
-    e ∙ (ap (λ (x : ℕ). stops.BadCircuit x k) same.0 ∙ ap (λ (x : AagKind). stops.BadCircuit at x) same.1)
+    e ∙ (ap (λ (x : ℕ). stops.BadCircuit x k) same.0 ∙ ap (λ (x : CircuitKind). stops.BadCircuit at x) same.1)
 bad_circuit_stops s d stop t at kind told first (signals_unreadable has h) = absurd (told_none s d t at kind told.told first has)
 bad_circuit_stops s d stop t at kind told first (signals_long e has h) = absurd (told_none s d t at kind told.told first has)
 bad_circuit_stops s d stop t at kind told first (bad_signals line k e h) = absurd (told_none s d t at kind told.told first (h.0, h.1))
 
-bad_circuit_ends : (s : Subject) (d : DeskSeen) (stop : Stop) (t : List ℕ) (at : ℕ) (kind : AagKind) → IsTold d files.Circuit s.circuit t → IsFirstInCircuit t at kind
+bad_circuit_ends : (s : Subject) (d : DeskSeen) (stop : Stop) (t : List ℕ) (at : ℕ) (kind : CircuitKind) → IsTold d files.Circuit s.circuit t → IsFirstInCircuit t at kind
     → SubjectStops s d stop → (stop ≡ stops.BadCircuit at kind) ⊎ (stop ≡ stops.OutOfMemory)
 bad_circuit_ends s d stop t at kind told first (subject_unread r) = inl (bad_circuit_stops s d stop t at kind told first r)
 bad_circuit_ends s d stop t at kind told first (subject_accepted c sig has also) = absurd (told_none s d t at kind told.told first (c, has))
 bad_circuit_ends s d stop t at kind told first (subject_memory e) = inr e
 
-bad_circuit_whole : (s : Subject) (d : DeskSeen) (t : List ℕ) (at : ℕ) (kind : AagKind) → IsTold d files.Circuit s.circuit t → IsFirstInCircuit t at kind → SubjectOutput s d → ⊥
+bad_circuit_whole : (s : Subject) (d : DeskSeen) (t : List ℕ) (at : ℕ) (kind : CircuitKind) → IsTold d files.Circuit s.circuit t → IsFirstInCircuit t at kind → SubjectOutput s d → ⊥
 bad_circuit_whole s d t at kind told first (made_of c sig has also) = told_none s d t at kind told.told first (c, has)
 
 pub bad_circuit_comes : (command : Meaning) (d : DeskSeen) (out err : SinkSeen) (status : Status) → IsAnswer command d out err status → BadCircuitComes command d err status

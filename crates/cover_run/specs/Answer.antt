@@ -1,7 +1,7 @@
 -- How a run ends, and why.
 use Rattle.std.specs.Prelude.{◌≡◌, ◌≢◌, ◌⊎◌, ℕ, Bool, true, List, IsSomeAnd}
 use Rattle.run_io.specs.Sink.{GrewByPart}
-use Rattle.aig_ascii.specs.declared.fault.AagKind.{AagKind}
+use Rattle.cover_run.specs.declared.stop.CircuitKind.{CircuitKind}
 use Rattle.signal_list.specs.declared.fault.SigKind.{SigKind}
 use Rattle.cover_run.specs.declared.stop.File.{File}
 use Rattle.cover_run.specs.declared.stop.File.TheVariants as files
@@ -40,7 +40,7 @@ IsReached (Replay call) d files.Witness = HasSomeSubject call.subject d
 IsReached (Lrat call) d files.Proof = HasSomeFormula call d
 IsReached command d f = Unit {0}
 
-abbrev pub HasBadCircuit : Meaning → DeskSeen → ℕ → AagKind → Type 0
+abbrev pub HasBadCircuit : Meaning → DeskSeen → ℕ → CircuitKind → Type 0
 HasBadCircuit command d at kind = IsSomeAnd (subject_of command) (λ s. RefusesCircuit s d at kind)
 
 abbrev pub HasBadSignals : Meaning → DeskSeen → ℕ → SigKind → Type 0

@@ -3,8 +3,8 @@ use Rattle.std.specs.Prelude.{◌≡◌, ℕ, ◌+◌, ◌*◌, ◌<◌, ◌≤�
 use Rattle.aig_model.specs.SignalList.{IsSignals}
 use Rattle.aig_model.specs.WellFormed.{IsCircuit}
 use Rattle.aig_model.specs.declared.parts.Parts.{Parts}
-use Rattle.aig_ascii.specs.Aag.{SpellsCircuit, IsFirstFault as IsFirstInCircuit}
-use Rattle.aig_ascii.specs.declared.fault.AagKind.{AagKind}
+use Rattle.cover_run.specs.CircuitText.{SpellsCircuit, IsFirstFault as IsFirstInCircuit}
+use Rattle.cover_run.specs.declared.stop.CircuitKind.{CircuitKind}
 use Rattle.sim_walk.specs.declared.options.Options.{Options}
 use Rattle.cover_run.specs.declared.stop.File.TheVariants as files
 use Rattle.cover_run.specs.declared.stop.Measure.{Measure}
@@ -28,7 +28,7 @@ pub record IsSignalsText (c : Parts) (sig : List ℕ) (t : List ℕ) : Type 0 wh
   pub right : IsSignals c sig
 
 -- a text within its limit with this first fault, as a circuit
-pub record HasCircuitFault (at : ℕ) (kind : AagKind) (t : List ℕ) : Type 0 where
+pub record HasCircuitFault (at : ℕ) (kind : CircuitKind) (t : List ℕ) : Type 0 where
   pub short : length t ≤ limit_of files.Circuit
   pub first : IsFirstInCircuit t at kind
 
@@ -68,7 +68,7 @@ IsTooMuch o c measures.Walk = (frames_of o c ≤ 4000000) × (2000000 < walk_of 
 IsTooMuch o c m = ⊥
 
 -- ---- the refusals
-abbrev pub RefusesCircuit : Subject → DeskSeen → ℕ → AagKind → Type 0
+abbrev pub RefusesCircuit : Subject → DeskSeen → ℕ → CircuitKind → Type 0
 RefusesCircuit s d at kind = HasText d s.circuit (HasCircuitFault at kind)
 
 abbrev pub RefusesSignals : Subject → DeskSeen → ℕ → SigKind → Type 0

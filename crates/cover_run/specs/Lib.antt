@@ -3,6 +3,7 @@ pub mod Answer
 pub mod Blocks
 pub mod Bounds
 pub mod Checking
+pub mod CircuitText
 pub mod Commands
 pub mod Covering
 pub mod Exporting

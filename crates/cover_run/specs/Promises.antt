@@ -7,8 +7,8 @@ use Rattle.cnf_base.specs.declared.fault.DimacsKind.{DimacsKind}
 use Rattle.lrat_text.specs.Lrat.{SpellsProof, IsFirstFault as IsFirstInProof}
 use Rattle.lrat_text.specs.declared.fault.LratKind.{LratKind}
 use Rattle.lrat_text.specs.declared.proof.LratStep.{LratStep}
-use Rattle.aig_ascii.specs.Aag.{SpellsCircuit, IsFirstFault as IsFirstInCircuit}
-use Rattle.aig_ascii.specs.declared.fault.AagKind.{AagKind}
+use Rattle.cover_run.specs.CircuitText.{SpellsCircuit, IsFirstFault as IsFirstInCircuit}
+use Rattle.cover_run.specs.declared.stop.CircuitKind.{CircuitKind}
 use Rattle.signal_list.specs.SignalText.{SpellsSignals, IsFirstFault as IsFirstInSignals}
 use Rattle.signal_list.specs.declared.fault.SigKind.{SigKind}
 use Rattle.lrat_text.specs.Accepted.{Accepted}
@@ -87,7 +87,7 @@ HasEnded status = (status ≡ statuses.Settled) ⊎ (status ≡ statuses.Open)
 
 -- this stop is the answer, and its line was said, out of memory aside
 abbrev pub Answers : SinkSeen → Status → Stop → Type 0
-Answers err status stop = ((status ≡ status_of stop) × TookWhatItCould err (line_of stop)) ⊎ (status ≡ statuses.WantOfMemory)
+Answers err status stop = ((status ≡ status_of stop) × TookWhatItCould err (line_of stop)) ⊎ (status ≡ statuses.OutOfMemory)
 
 -- ---- the headline
 -- The output took exactly the text of a true report of the circuit, the signals and the options, and
@@ -113,7 +113,7 @@ pub record IsComplete (call : CoverCall) (c : Parts) (sig : List ℕ) (out : Sin
 abbrev pub Completeness : Meaning → DeskSeen → SinkSeen → Status → Type 0
 Completeness command d out status =
     (call : CoverCall) (c : Parts) (sig : List ℕ) → command ≡ Cover call → Accepts call.subject d c sig → HasRoom call.options c → IsUndisturbed command d out
-    → IsComplete call c sig out status ⊎ (status ≡ statuses.WantOfMemory)
+    → IsComplete call c sig out status ⊎ (status ≡ statuses.OutOfMemory)
 
 -- ---- a proof is accepted
 -- the proof is accepted, the formula has no model, and the output took exactly the line that says so
@@ -132,7 +132,7 @@ AcceptedCause command d out status =
 abbrev pub AcceptedComes : Meaning → DeskSeen → SinkSeen → Status → Type 0
 AcceptedComes command d out status =
     (call : LratCall) (f : CnfFormula) (p : List LratStep) → command ≡ Lrat call → Spells call d f p → Accepted f p → IsUndisturbed command d out
-    → IsProved f p out status ⊎ (status ≡ statuses.WantOfMemory)
+    → IsProved f p out status ⊎ (status ≡ statuses.OutOfMemory)
 
 -- ---- a text that is always the same
 abbrev pub fixed_text : Meaning → Option (List ℕ)
@@ -151,7 +151,7 @@ PrintedCause command out status = (text : List ℕ) → fixed_text command ≡ S
 
 -- and there it comes, where nothing failed
 abbrev pub PrintedComes : Meaning → SinkSeen → Status → Type 0
-PrintedComes command out status = (text : List ℕ) → fixed_text command ≡ Some text → ¬ Failed out → IsPrinted text out status ⊎ (status ≡ statuses.WantOfMemory)
+PrintedComes command out status = (text : List ℕ) → fixed_text command ≡ Some text → ¬ Failed out → IsPrinted text out status ⊎ (status ≡ statuses.OutOfMemory)
 
 -- ---- statuses 0 and 1, on any desk
 -- the whole output was taken, with no fault and no idle write, it is one that is right for what was read, and the status says
@@ -178,7 +178,7 @@ ReadFaultCause command d err status =
 -- only where the circuit's text has the first fault that the line says
 abbrev pub BadCircuitCause : Meaning → DeskSeen → SinkSeen → Status → Type 0
 BadCircuitCause command d err status =
-    status ≡ statuses.BadCircuit → (at : ℕ) × (kind : AagKind) × HasBadCircuit command d at kind × TookWhatItCould err (line_of (stops.BadCircuit at kind))
+    status ≡ statuses.BadCircuit → (at : ℕ) × (kind : CircuitKind) × HasBadCircuit command d at kind × TookWhatItCould err (line_of (stops.BadCircuit at kind))
 
 -- only where a circuit is spelled, and the signals' text has the first fault that the line says
 abbrev pub BadSignalsCause : Meaning → DeskSeen → SinkSeen → Status → Type 0
@@ -212,7 +212,7 @@ RefusedCause command d err status = status ≡ statuses.Refused → (why : Refus
 -- ---- the refusals of a circuit and of signals come, whatever command reads them
 abbrev pub BadCircuitComes : Meaning → DeskSeen → SinkSeen → Status → Type 0
 BadCircuitComes command d err status =
-    (s : Subject) (t : List ℕ) (at : ℕ) (kind : AagKind) → subject_of command ≡ Some s → IsTold d files.Circuit s.circuit t → IsFirstInCircuit t at kind
+    (s : Subject) (t : List ℕ) (at : ℕ) (kind : CircuitKind) → subject_of command ≡ Some s → IsTold d files.Circuit s.circuit t → IsFirstInCircuit t at kind
     → Answers err status (stops.BadCircuit at kind)
 
 abbrev pub BadSignalsComes : Meaning → DeskSeen → SinkSeen → Status → Type 0
@@ -255,7 +255,7 @@ ExportedCause command d out status =
 abbrev pub ExportedComes : Meaning → DeskSeen → SinkSeen → Status → Type 0
 ExportedComes command d out status =
     (s : Subject) (c : Parts) (sig : List ℕ) → command ≡ Goals s → Accepts s d c sig → ¬ IsTooManyGoals c sig → IsUndisturbed command d out
-    → IsExported c sig out status ⊎ (status ≡ statuses.WantOfMemory)
+    → IsExported c sig out status ⊎ (status ≡ statuses.OutOfMemory)
 
 -- a goal circuit that would be too large is refused so
 abbrev pub ManyGoalsComes : Meaning → DeskSeen → SinkSeen → Status → Type 0
@@ -292,7 +292,7 @@ ReplayedCause command d out status =
 abbrev pub ReplayedComes : Meaning → DeskSeen → SinkSeen → Status → Type 0
 ReplayedComes command d out status =
     (call : ReplayCall) (c : Parts) (sig : List ℕ) (w : Witness) → command ≡ Replay call → Accepts call.subject d c sig → SpellsReplay call d c w
-    → Shows c sig w.trace w.property → IsUndisturbed command d out → IsReplayed c sig w out status ⊎ (status ≡ statuses.WantOfMemory)
+    → Shows c sig w.trace w.property → IsUndisturbed command d out → IsReplayed c sig w out status ⊎ (status ≡ statuses.OutOfMemory)
 
 -- a witness that is told and too long is refused so, where the circuit and the signals are accepted
 abbrev pub LongWitnessComes : Meaning → DeskSeen → SinkSeen → Status → Type 0
@@ -349,7 +349,7 @@ LongProofComes command d err status =
 abbrev pub IsEarly : Status → Type 0
 IsEarly status =
     (status ≡ statuses.Usage) ⊎ (status ≡ statuses.ReadFault) ⊎ (status ≡ statuses.BadCircuit) ⊎ (status ≡ statuses.BadSignals) ⊎ (status ≡ statuses.Limit)
-    ⊎ (status ≡ statuses.WantOfMemory) ⊎ (status ≡ statuses.Refused)
+    ⊎ (status ≡ statuses.OutOfMemory) ⊎ (status ≡ statuses.Refused)
 
 -- under a write fault it grew by a part of a whole output, from its front and not all, which is right for what was read
 abbrev pub PrefixAfterFault : Meaning → DeskSeen → SinkSeen → Status → Type 0

@@ -1,5 +1,5 @@
 -- Causes of the steps of a command.
-use Rattle.std.specs.Prelude.{◌≡◌, ◌≢◌, ℕ, List, length, [], ◌∷◌, Some}
+use Rattle.std.specs.Prelude.{◌≡◌, ◌≢◌, ℕ, Bool, List, length, [], ◌∷◌, Some}
 use Rattle.aig_model.specs.declared.parts.Parts.{Parts}
 use Rattle.sim_walk.specs.declared.options.Options.{Options}
 use Rattle.run_io.specs.Desk.{HasSameFaults}
@@ -16,7 +16,8 @@ use Rattle.cover_run.specs.declared.stop.Measure.TheVariants as measures
 use Rattle.cover_run.specs.declared.stop.Refusal.TheVariants as refusals
 use Rattle.cover_run.specs.declared.stop.Stop.{Stop}
 use Rattle.cover_run.specs.declared.stop.Stop.TheVariants as stops
-use Rattle.cover_run.specs.Covering.{HasCircuitFault, HasSomeCircuit, RefusesCircuit, RefusesSignals, IsTooMuch}
+use Rattle.cover_run.specs.CircuitText.{is_binary, IsFirstFaultIn}
+use Rattle.cover_run.specs.Covering.{HasSomeCircuit, RefusesCircuit, RefusesSignals, IsTooMuch}
 use Rattle.cover_run.specs.Exporting.{IsTooManyGoals}
 use Rattle.cover_run.specs.Files.{IsTooLong, IsReadToEnd}
 use Rattle.wit_text.specs.WitnessText.{IsFirstFault as IsFirstInWitness}
@@ -62,10 +63,13 @@ GoalsCause c sig stops.OutOfMemory = Unit {0}
 GoalsCause c sig stop = ⊥
 
 -- why the bytes of a circuit, and those of its signals, are refused
+abbrev pub CircuitCauseIn : Bool → List ℕ → Stop → Type 0
+CircuitCauseIn binary bytes (stops.BadCircuit at kind) = IsFirstFaultIn binary bytes at kind
+CircuitCauseIn binary bytes stops.OutOfMemory = Unit {0}
+CircuitCauseIn binary bytes stop = ⊥
+
 abbrev pub CircuitCause : List ℕ → Stop → Type 0
-CircuitCause bytes (stops.BadCircuit at kind) = HasCircuitFault at kind bytes
-CircuitCause bytes stops.OutOfMemory = Unit {0}
-CircuitCause bytes stop = ⊥
+CircuitCause bytes stop = CircuitCauseIn (is_binary bytes) bytes stop
 
 abbrev pub SignalsCause : Parts → List ℕ → Stop → Type 0
 SignalsCause c bytes (stops.BadSignals line kind) = IsFirstInSignals c bytes line kind

@@ -2,6 +2,8 @@
 use Rattle.std.specs.Prelude.{ℕ, Bool, true, false, if◌then◌else◌, List, ◌++◌, codes, decimal}
 use Rattle.aig_ascii.specs.declared.fault.AagKind.{AagKind}
 use Rattle.aig_ascii.specs.declared.fault.AagKind.TheVariants as aag
+use Rattle.aig_binary.specs.declared.fault.AigKind.{AigKind}
+use Rattle.aig_binary.specs.declared.fault.AigKind.TheVariants as aig
 use Rattle.signal_list.specs.declared.fault.SigKind.{SigKind}
 use Rattle.signal_list.specs.declared.fault.SigKind.TheVariants as sig
 use Rattle.cnf_base.specs.declared.fault.DimacsKind.{DimacsKind}
@@ -12,6 +14,8 @@ use Rattle.lrat_check.specs.declared.fault.ProofKind.{ProofKind}
 use Rattle.lrat_check.specs.declared.fault.ProofKind.TheVariants as proof
 use Rattle.wit_text.specs.declared.fault.WitKind.{WitKind}
 use Rattle.wit_text.specs.declared.fault.WitKind.TheVariants as wit
+use Rattle.cover_run.specs.declared.stop.CircuitKind.{CircuitKind}
+use Rattle.cover_run.specs.declared.stop.CircuitKind.TheVariants as kinds
 use Rattle.cover_run.specs.declared.stop.File.{File}
 use Rattle.cover_run.specs.declared.stop.File.TheVariants as files
 use Rattle.cover_run.specs.declared.stop.Measure.{Measure}
@@ -34,7 +38,7 @@ status_of (stops.BadCircuit at kind) = statuses.BadCircuit
 status_of (stops.BadSignals line kind) = statuses.BadSignals
 status_of (stops.Refused why) = statuses.Refused
 status_of stops.CannotWrite = statuses.WriteFault
-status_of stops.OutOfMemory = statuses.WantOfMemory
+status_of stops.OutOfMemory = statuses.OutOfMemory
 
 abbrev pub settled_status : Bool → Status
 settled_status settled = if settled then statuses.Settled else statuses.Open
@@ -78,6 +82,21 @@ aag_word aag.Symbol = codes "Symbol"
 aag_word aag.Truncated = codes "Truncated"
 aag_word aag.Liveness = codes "Liveness"
 aag_word aag.Limit = codes "Limit"
+
+abbrev pub aig_word : AigKind → List ℕ
+aig_word aig.Header = codes "Header"
+aig_word aig.Number = codes "Number"
+aig_word aig.Range = codes "Range"
+aig_word aig.Reset = codes "Reset"
+aig_word aig.Symbol = codes "Symbol"
+aig_word aig.Truncated = codes "Truncated"
+aig_word aig.Liveness = codes "Liveness"
+aig_word aig.Limit = codes "Limit"
+aig_word aig.Delta = codes "Delta"
+
+abbrev pub circuit_word : CircuitKind → List ℕ
+circuit_word (kinds.Ascii kind) = aag_word kind
+circuit_word (kinds.Binary kind) = aig_word kind
 
 abbrev pub sig_word : SigKind → List ℕ
 sig_word sig.Form = codes "Form"
@@ -144,7 +163,7 @@ line_of stops.Usage = codes "ketch: usage: ketch cover|check|goals|replay|lrat|m
 line_of (stops.Unreadable f) = word_line (codes "ketch: cannot read ") (file_word f)
 line_of (stops.TooLong f) = word_line (codes "ketch: limit: ") (file_word f)
 line_of (stops.TooLarge m) = word_line (codes "ketch: limit: ") (measure_word m)
-line_of (stops.BadCircuit at kind) = placed_line (codes "ketch: circuit at ") at (aag_word kind)
+line_of (stops.BadCircuit at kind) = placed_line (codes "ketch: circuit at ") at (circuit_word kind)
 line_of (stops.BadSignals line kind) = placed_line (codes "ketch: signals line ") line (sig_word kind)
 line_of (stops.Refused why) = refusal_line why
 line_of stops.CannotWrite = codes "ketch: cannot write\n"

@@ -21,4 +21,4 @@ pub use composing::compose;
 pub use gate::{Gate, OpenGate};
 pub use report_text::Report;
 pub use running::run;
-pub use stop::{File, Measure, Misfit, Refusal, Status, Stop};
+pub use stop::{CircuitKind, File, Measure, Misfit, Refusal, Status, Stop};

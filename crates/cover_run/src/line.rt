@@ -1,10 +1,11 @@
 //! The lines on the error stream. They take no memory.
 
 ghost use Rattle.std.specs.Prelude.{◌≡◌, ◌+◌, ◌<◌, ◌≤◌, ◌++◌, length, codes, decimal};
-ghost use Rattle.cover_run.specs.Stops.{file_word, measure_word, aag_word, sig_word, dimacs_word, lrat_word, wit_word, misfit_words, proof_words, word_line, placed_text, placed_line, refusal_line, line_of};
+ghost use Rattle.cover_run.specs.Stops.{file_word, measure_word, aag_word, aig_word, circuit_word, sig_word, dimacs_word, lrat_word, wit_word, misfit_words, proof_words, word_line, placed_text, placed_line, refusal_line, line_of};
 
-use crate::stop::{File, Measure, Misfit, Refusal, Stop};
+use crate::stop::{CircuitKind, File, Measure, Misfit, Refusal, Stop};
 use aig_ascii::AagKind;
+use aig_binary::AigKind;
 use arrayvec::ArrayString;
 use cnf_base::DimacsKind;
 use itoa::Buffer;
@@ -81,6 +82,33 @@ fn aag_word(kind: AagKind) -> &'static str
         AagKind::Truncated => "Truncated",
         AagKind::Liveness => "Liveness",
         AagKind::Limit => "Limit",
+    }
+}
+
+fn aig_word(kind: AigKind) -> &'static str
+    ensures word { result.now ≡ aig_word kind }
+    ensures short { length result.now ≤ 20 }
+{
+    match kind {
+        AigKind::Header => "Header",
+        AigKind::Number => "Number",
+        AigKind::Range => "Range",
+        AigKind::Reset => "Reset",
+        AigKind::Symbol => "Symbol",
+        AigKind::Truncated => "Truncated",
+        AigKind::Liveness => "Liveness",
+        AigKind::Limit => "Limit",
+        AigKind::Delta => "Delta",
+    }
+}
+
+fn circuit_word(kind: CircuitKind) -> &'static str
+    ensures word { result.now ≡ circuit_word kind }
+    ensures short { length result.now ≤ 20 }
+{
+    match kind {
+        CircuitKind::Ascii(kind) => aag_word(kind),
+        CircuitKind::Binary(kind) => aig_word(kind),
     }
 }
 
@@ -250,7 +278,7 @@ pub(crate) fn line_of(stop: Stop) -> Line
         Stop::Unreadable(file) => word_line("ketch: cannot read ", file_word(file)),
         Stop::TooLong(file) => word_line("ketch: limit: ", file_word(file)),
         Stop::TooLarge(measure) => word_line("ketch: limit: ", measure_word(measure)),
-        Stop::BadCircuit { at, kind } => placed_line("ketch: circuit at ", at, aag_word(kind)),
+        Stop::BadCircuit { at, kind } => placed_line("ketch: circuit at ", at, circuit_word(kind)),
         Stop::BadSignals { line, kind } => {
             placed_line("ketch: signals line ", line.into(), sig_word(kind))
         }

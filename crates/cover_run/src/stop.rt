@@ -5,6 +5,7 @@ ghost use Rattle.cover_run.specs.Files.{limit_of};
 ghost use Rattle.cover_run.specs.Stops.{status_of, settled_status};
 
 use aig_ascii::AagKind;
+use aig_binary::AigKind;
 use cnf_base::DimacsKind;
 use ketch_base::OutOfMemory;
 use lrat_check::ProofKind;
@@ -33,6 +34,13 @@ pub enum Measure {
     Walk,
     /// The variables of the goal circuit.
     Goals,
+}
+
+/// The kind of a fault of a circuit's text, in the format that the text begins with.
+#[derive(Clone, Copy, Debug, PartialEq, Eq)]
+pub enum CircuitKind {
+    Ascii(AagKind),
+    Binary(AigKind),
 }
 
 /// What is wrong first with a trace that doesn't show its property. Latches and steps count from 0.
@@ -64,7 +72,7 @@ pub enum Stop {
     TooLong(File),
     TooLarge(Measure),
     /// The place is the first byte at fault, counted from 0.
-    BadCircuit { at: u64, kind: AagKind },
+    BadCircuit { at: u64, kind: CircuitKind },
     /// Lines count from 1; a list without a signal is seen at line 0.
     BadSignals { line: u32, kind: SigKind },
     Refused(Refusal),
@@ -83,7 +91,7 @@ pub enum Status {
     BadSignals,
     Limit,
     WriteFault,
-    WantOfMemory,
+    OutOfMemory,
     Refused,
 }
 
@@ -119,7 +127,7 @@ pub(crate) fn status_of(stop: Stop) -> Status
         Stop::BadSignals { line: _, kind: _ } => Status::BadSignals,
         Stop::Refused(_) => Status::Refused,
         Stop::CannotWrite => Status::WriteFault,
-        Stop::OutOfMemory => Status::WantOfMemory,
+        Stop::OutOfMemory => Status::OutOfMemory,
     }
 }
 

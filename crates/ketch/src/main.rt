@@ -25,7 +25,7 @@ fn words(rt: &HostRuntime) -> Result<Vec<Vec<u8>>, OutOfMemory> {
 fn main(rt: HostRuntime) -> ExitCode {
     let Ok(words) = words(&rt) else {
         let _ = rt.eprint("ketch: out of memory\n");
-        return ExitCode::from(Status::WantOfMemory as u8);
+        return ExitCode::from(Status::OutOfMemory as u8);
     };
     let mut desk = HostDesk::new(&rt);
     let mut out = HostSink::new(rt.stdout());

@@ -6,6 +6,8 @@ mod setting;
 pub use setting::{Outcome, Setting};
 
 #[cfg(test)]
+mod binary_rows;
+#[cfg(test)]
 mod devices;
 #[cfg(test)]
 mod goals_rows;

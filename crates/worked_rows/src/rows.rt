@@ -29,7 +29,7 @@ const NEGATED_REPORT: &[u8] =
 const ENABLE_AND_RESET: &[u8] =
     b"aag 7 2 1 2 4\n2\n4\n6 8\n6\n7\n8 4 10\n10 13 15\n12 2 6\n14 3 7\ni0 enable\ni1 reset\n";
 
-const ENABLE_REPORT: &[u8] =
+pub(crate) const ENABLE_REPORT: &[u8] =
     b"ketch 1\nsize 2 1 2\noptions 0 0 1000 100 4 1 20000 0 0 0\nhistory 1\n0 0 0 r zero 0\nseeds 0\ninvs 0\ngoals 4\ngoal 0 reached 0\n1\nb0\n0\n00\n.\ngoal 1 open depth none hops strength none\ngoal 2 open depth none hops strength none\ngoal 3 open depth none hops strength none\nspents 0\nrefutes 0\nend 1 0 3\n";
 
 const NOTHING_REPORT: &[u8] =
@@ -181,7 +181,7 @@ fn refusals(rt: HostRuntime) -> Result<(), Fail> {
 /// A circuit, and the line.
 const BAD_CIRCUITS: &[(&[u8], &[u8])] = &[
     (b"", b"ketch: circuit at 0: Header\n"),
-    (b"aig 0 0 0 0 0\n", b"ketch: circuit at 0: Header\n"),
+    (b"aig\n", b"ketch: circuit at 0: Header\n"),
     (b"aag 1 0 1 0 0\n", b"ketch: circuit at 14: Truncated\n"),
     (
         b"aag 1 0 1 0 0 0 0 1\n2 3\n",

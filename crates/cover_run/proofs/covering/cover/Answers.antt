@@ -5,6 +5,7 @@ use Rattle.cover_run.specs.Seen.{seen}
 use Rattle.cover_run.specs.Words.{Cover}
 use Rattle.cover_run.proofs.Opening.{all_fine}
 use Rattle.cover_run.proofs.Reading.{read_then, subject_stops_cover}
+use Rattle.cover_run.proofs.Rooms.{room_stop}
 use Rattle.cover_run.proofs.covering.cover.Goals as goal
 
 pub returns-clause-output : goal.returns-clause-output
@@ -23,6 +24,12 @@ returns-in_err-circuit-clause-cause g c =
     let p = err_from_is_err_and c.from_residual.result c.from_residual.ensures.1 in
     rw (p.1, p.2) (subject_stops_cover (cover_call c.args.call.now) (seen (g.D.Desk.state c.args.desk.now) (g.D.Desk.state c.read_subject.new.desk)) c.in_err-circuit.field-0.0
     c.in_err-circuit.ensures.cause)
+
+pub returns-in_err-has_room-clause-cause : goal.returns-in_err-has_room-clause-cause
+returns-in_err-has_room-clause-cause g c =
+    let p = err_from_is_err_and c.from_residual-in_err-has_room.result c.from_residual-in_err-has_room.ensures.1 in
+    rw (p.1, p.2) (room_stop (cover_call c.args.call.now) (seen (g.D.Desk.state c.args.desk.now) (g.D.Desk.state c.read_subject.new.desk)) c.in_ok-circuit.circuit
+    c.in_ok-circuit.signals.lits c.in_err-has_room.field-0.0 c.in_ok-circuit.ensures.circuit c.in_ok-circuit.ensures.signals c.in_err-has_room.ensures.cause)
 
 pub returns-in_err-has_room-clause-left : goal.returns-in_err-has_room-clause-left
 returns-in_err-has_room-clause-left g c =

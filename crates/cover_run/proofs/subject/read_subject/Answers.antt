@@ -1,10 +1,10 @@
 use Rattle.std.proofs.Common.{◌≡◌, subst, List, [], ◌∷◌, ℕ, length, ◌≤◌, Option, IfSome}
 use Rattle.std.proofs.lemmas.Result.{err_from_is_err_and}
-use Rattle.aig_ascii.specs.Aag.{SpellsCircuit}
+use Rattle.cover_run.specs.CircuitText.{SpellsCircuit}
 use Rattle.aig_model.specs.declared.parts.Parts.{Parts}
 use Rattle.cover_run.specs.declared.stop.File.TheVariants as files
 use Rattle.cover_run.specs.Commands.{subject_named}
-use Rattle.aig_ascii.proofs.Texts.{is-circuit}
+use Rattle.cover_run.proofs.CircuitTexts.{is-circuit}
 use Rattle.aig_model.specs.WellFormed.{IsCircuit}
 use Rattle.signal_list.specs.SignalText.{SpellsSignals}
 use Rattle.signal_list.proofs.InRange.{are-signals}
@@ -49,7 +49,8 @@ pub returns-in_err-circuit-clause-cause : goal.returns-in_err-circuit-clause-cau
 returns-in_err-circuit-clause-cause g c =
     let p = err_from_is_err_and c.from_residual-in_err-circuit.result c.from_residual-in_err-circuit.ensures.1 in
     rw (p.1, p.2) (circuit_refused (subject_named c.args.subject.now) (seen (g.D.Desk.state c.args.desk.now) (g.D.Desk.state c.read_part.new.desk)) c.in_ok-bytes.bytes.items
-    c.deref.result.now c.in_err-circuit.field-0.0 c.deref.ensures.value c.in_ok-bytes.ensures.whole c.in_err-circuit.ensures.cause)
+    c.deref.result.now c.in_err-circuit.field-0.0 c.deref.ensures.value c.in_ok-bytes.ensures.short c.in_ok-bytes.ensures.whole
+    c.in_err-circuit.ensures.cause)
 
 pub returns-in_err-circuit-clause-left : goal.returns-in_err-circuit-clause-left
 returns-in_err-circuit-clause-left g c =
@@ -120,4 +121,4 @@ returns-clause-signals g c =
     let bytes = c.in_ok-bytes-2.bytes.items in
     let told = subst (λ (o : Option (List ℕ)). IfSome o (λ t. bytes ≡ t)) (c.read_part.ensures.text s.signals) c.in_ok-bytes-2.ensures.whole in
     has_signals s (seen (g.D.Desk.state c.args.desk.now) (g.D.Desk.state c.read_part-2.new.desk)) bytes c.deref-2.result.now _ _ c.deref-2.ensures.value c.in_ok-bytes-2.ensures.short
-    (is-circuit _ _ c.in_ok-circuit.ensures.circuit) c.in_ok-signals.ensures.signals told
+    (is-circuit c.deref.result.now _ c.in_ok-circuit.ensures.circuit) c.in_ok-signals.ensures.signals told

@@ -1,0 +1,103 @@
+//! What the commands answer to circuits in the binary format.
+
+use crate::rows::ENABLE_REPORT;
+use crate::setting::Setting;
+use cover_run::Status;
+use std::alloc::Global;
+use std::marker::Sync;
+use std::test::Fail;
+use std::thread::Threads;
+
+/// A counter of one bit with enable and reset, with names and a comment.
+const ENABLE: &[u8] =
+    b"aig 7 2 1 2 4\n14\n6\n7\n\x02\x04\x03\x04\x01\x02\x02\x08i0 enable\ni1 reset\nl0 Q\no0 Q\no1 !Q\nc\nmade by hand\n";
+
+/// A gate whose second delta has two bytes.
+const WIDE: &[u8] = b"aig 66 64 1 1 1\n132\n132\n\x02\x80\x01";
+
+/// The circuit, the signals, the status, the output and the line.
+type Row = (
+    &'static [u8],
+    &'static [u8],
+    Status,
+    &'static [u8],
+    &'static [u8],
+);
+
+const COVERED: &[Row] = &[
+    (ENABLE, b"l0\n@enable\n", Status::Open, ENABLE_REPORT, b""),
+    (
+        ENABLE,
+        b"@Q\n",
+        Status::BadSignals,
+        b"",
+        b"ketch: signals line 1: TwoNames\n",
+    ),
+    (
+        b"aig 66 64 1 1 1\n132\n132\n\x02\x80",
+        b"o0\n",
+        Status::BadCircuit,
+        b"",
+        b"ketch: circuit at 26: Truncated\n",
+    ),
+    (
+        b"aig 1 0 0 0 1\n\x00\x00",
+        b"n2\n",
+        Status::BadCircuit,
+        b"",
+        b"ketch: circuit at 14: Delta\n",
+    ),
+    (
+        b"aig 2 0 0 0 1\n\x02\x00",
+        b"n2\n",
+        Status::BadCircuit,
+        b"",
+        b"ketch: circuit at 4: Header\n",
+    ),
+    (
+        b"aig",
+        b"n2\n",
+        Status::BadCircuit,
+        b"",
+        b"ketch: circuit at 0: Header\n",
+    ),
+];
+
+fn covers<R: Threads + Sync>(rt: &R, alloc: Global, row: &Row) -> Result<bool, Fail> {
+    let outcome = Setting::cover(row.0, row.1).run(rt, alloc)?;
+    Ok(outcome.is(row.2, row.3, row.4))
+}
+
+#[test]
+fn covered(rt: HostRuntime) -> Result<(), Fail> {
+    for (place, row) in COVERED.iter().enumerate() {
+        assert!(rt; covers(&rt, rt.alloc(), row)?, "row {place}");
+    }
+    Ok(())
+}
+
+/// The constant output is never 1, and every input and the latch are 0 in the walk.
+fn wide_is_covered<R: Threads + Sync>(rt: &R, alloc: Global) -> Result<bool, Fail> {
+    let outcome = Setting::cover(WIDE, b"o0\n").run(rt, alloc)?;
+    Ok(outcome.status == Status::Open && outcome.out.as_slice().ends_with(b"end 1 0 1\n"))
+}
+
+/// The goal circuit of a binary file is printed as ASCII.
+fn goals_are_printed<R: Threads + Sync>(rt: &R, alloc: Global) -> Result<bool, Fail> {
+    let outcome = Setting::goals(b"aig 1 0 1 2 0\n3\n2\n3\n", b"l0\n").run(rt, alloc)?;
+    Ok(outcome.is(Status::Settled, b"aag 1 0 1 0 0 2\n2 3\n3\n2\n", b""))
+}
+
+fn witness_is_replayed<R: Threads + Sync>(rt: &R, alloc: Global) -> Result<bool, Fail> {
+    let setting = Setting::replay(b"aig 1 0 1 2 0\n3\n2\n3\n", b"l0\n", b"1\nb1\n0\n\n\n.\n");
+    let outcome = setting.run(rt, alloc)?;
+    Ok(outcome.is(Status::Settled, b"goal 1 at step 1\n", b""))
+}
+
+#[test]
+fn other_commands(rt: HostRuntime) -> Result<(), Fail> {
+    assert!(rt; wide_is_covered(&rt, rt.alloc())?);
+    assert!(rt; goals_are_printed(&rt, rt.alloc())?);
+    assert!(rt; witness_is_replayed(&rt, rt.alloc())?);
+    Ok(())
+}
