@@ -24,7 +24,7 @@ not_undefined c lit known = right_has_no_wrong (λ _ l. IsKnown c l) (uses c) li
 not_order : (c : Parts) (gate : ℕ) → IsOrdered c.gates → ¬ IsFirst (IsMisplaced c.gates) gate
 not_order c gate ordered first = ordered_is_placed c.gates gate ordered first.here
 
--- of a circuit only want of memory can be said
+-- of a circuit only OutOfMemory can be said
 circuit_leaves_memory : (c : Parts) (fault : BuildFault) → IsCircuit c → Says c fault → fault ≡ OutOfMemory
 circuit_leaves_memory c (Range lit) well says = absurd (not_range c lit well.in_range says)
 circuit_leaves_memory c (Defined lit) well says = absurd (not_defined c lit well.defining well.once says.first)
@@ -32,7 +32,7 @@ circuit_leaves_memory c (Undefined lit) well says = absurd (not_undefined c lit 
 circuit_leaves_memory c (Order gate) well says = absurd (not_order c gate well.ordered says.first)
 circuit_leaves_memory c OutOfMemory well says = refl
 
--- two faults that fit are one, want of memory aside
+-- two faults that fit are one, but for OutOfMemory
 one_fault : (c : Parts) (a b : BuildFault) → b ≢ OutOfMemory → Says c a → Says c b → (a ≡ b) ⊎ (a ≡ OutOfMemory)
 one_fault c OutOfMemory b other x y = inr refl
 one_fault c (Range l) (Range m) other x y = inl (ap Range (first_wrong_is_one (λ _ l. IsInRange c.top l) (literals c) l m x y))

@@ -35,6 +35,13 @@ impl Goals {
         }
     }
 
+    /// Says that the goals rise.
+    pub fn is_well_formed(&self)
+        ensures { IsStrictlyIncreasing self.now }
+    {
+        let _ = &self.goals;
+    }
+
     pub fn len(&self) -> usize
         ensures value { result ≡ length self.now }
         ensures rising { IsStrictlyIncreasing self.now }

@@ -39,6 +39,13 @@ impl Rows {
         }
     }
 
+    /// Says that every row is as wide as the table.
+    pub fn is_well_formed(&self)
+        ensures { All (λ row. length row ≡ self.now.width) self.now.rows }
+    {
+        let _ = &self.width;
+    }
+
     pub fn width(&self) -> u32
         ensures { result ≡ self.now.width }
     {

@@ -37,6 +37,13 @@ impl Signals {
         }
     }
 
+    /// Says that the literals are signals of the circuit.
+    pub fn is_well_formed(&self)
+        ensures { IsSignals self.now.circuit self.now.lits }
+    {
+        let _ = &self.lits;
+    }
+
     pub fn lits(&self) -> &Lits
         ensures value { result.now ≡ self.now.lits }
         ensures well_formed { IsSignals self.now.circuit self.now.lits }

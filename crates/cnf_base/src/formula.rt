@@ -1,6 +1,6 @@
 //! Formulas.
 
-ghost use Rattle.std.specs.Prelude.{◌≡◌, ◌≤◌, ◌++◌, ◌∷◌, [], All, OnOk, OnErr};
+ghost use Rattle.std.specs.Prelude.{◌≡◌, ◌≤◌, ◌++◌, ◌∷◌, [], length, take, All, OnOk, OnErr};
 ghost use Rattle.cnf_base.specs.Meaning.{IsWithin};
 
 use crate::clause::{Clause, Clauses};
@@ -38,6 +38,14 @@ impl Formula {
         }
     }
 
+    /// Says that the variables are few, and that each clause is over them.
+    pub fn is_well_formed(&self)
+        ensures limit { self.now.vars ≤ 4000000 }
+        ensures in_range { All (IsWithin self.now.vars) self.now.clauses }
+    {
+        let _ = &self.vars;
+    }
+
     /// The variables are 1 up to this number.
     pub fn vars(&self) -> u32
         ensures value { result ≡ self.now.vars }
@@ -61,5 +69,13 @@ impl Formula {
         ensures err { OnErr result (self.new ≡ self.old) }
     {
         self.clauses.push(clause)
+    }
+
+    /// Keeps the first `len` clauses.
+    pub fn truncate(&mut self, len: usize)
+        requires { len ≤ length self.old.clauses }
+        ensures { self.new ≡ record { vars = self.old.vars; clauses = take len self.old.clauses } }
+    {
+        self.clauses.truncate(len);
     }
 }

@@ -96,7 +96,7 @@ impl Evidence {
         ensures excludes { ErrExactly CertFault.OutOfMemory result CertFault.Excludes (¬ Accepted (excludes_formula circuit.now signals.now.lits cert.base.clauses goal) cert.excludes) }
     {
         circuit.is_well_formed();
-        let _ = signals.lits();
+        signals.is_well_formed();
         cert.is_checked();
         let formula = excludes_formula(alloc, circuit, signals, cert.base().clauses(), goal)?;
         if !is_accepted(alloc, &formula, cert.excludes())? {

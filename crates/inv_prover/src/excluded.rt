@@ -82,7 +82,7 @@ pub fn exclude(
     ensures { IfOk result (IsExcluded circuit.now signals.now.lits clauses.now goal lemmas) }
 {
     circuit.is_well_formed();
-    let _ = signals.lits();
+    signals.is_well_formed();
     few_clauses();
     let formula = excludes_formula(alloc, circuit, signals, clauses, goal)?;
     match solve(alloc, &formula, lemmas)? {

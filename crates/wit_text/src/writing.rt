@@ -52,20 +52,13 @@ pub fn push_witness(out: &mut Vec<u8>, property: u64, trace: &Trace) -> Result<(
     Ok(())
 }
 
-/// The rows are as wide as the table says.
-fn rows_are_wide(rows: &Rows)
-    ensures { All (λ row. length row ≡ rows.now.width) rows.now.rows }
-{
-    let _ = rows.len();
-}
-
 /// The text of a witness. One without steps has a text too, which the reader refuses.
 pub fn write_witness(alloc: Global, trace: &Trace, property: u32) -> Result<Vec<u8>, OutOfMemory>
     ensures text { IfOk result (λ text. text.items ≡ witness_text property trace.now) }
     ensures reads_back { 0 < length trace.now.rows.rows → IfOk result (λ text. SpellsWitness (length trace.now.start)
         trace.now.rows.width text.items (record { property = property; trace = trace.now })) }
 {
-    rows_are_wide(&trace.rows);
+    trace.rows.is_well_formed();
     let mut text = Vec::new(alloc);
     push_witness(&mut text, property.into(), trace)?;
     Ok(text)

@@ -17,7 +17,7 @@ returns-in-Sat c =
     let clauses = c.args.clauses.now in
     let values = c.in-Sat.values in
     let formula = excludes_formula circuit sig clauses c.args.goal in
-    let signals : IsSignals circuit sig = subst (λ (x : Parts). IsSignals x sig) c.requires.circuit c.lits.ensures.well_formed in
+    let signals : IsSignals circuit sig = subst (λ (x : Parts). IsSignals x sig) c.requires.circuit c.is_well_formed-2.ensures in
     let answer = subst (λ (a : Answer). IsAnswer c.in_ok-formula.formula c.args.lemmas a) c.in-Sat.is c.in_ok-proof.ensures in
     let model : IsModel formula values = subst (λ (f : CnfFormula). IsModel f values) c.in_ok-formula.ensures answer in
     subst (λ (x : Excluded). IsExcluded circuit sig clauses c.args.goal c.args.lemmas x) (sym c.in_ok-answer-in-Sat.ensures)

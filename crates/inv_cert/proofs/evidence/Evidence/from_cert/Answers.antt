@@ -22,7 +22,7 @@ invariant_of-result c =
         base = c.is_checked.ensures.base;
         accepted = accepted;
         written = c.is_checked.ensures.written;
-        bars = bars s.circuit s.lits c.args.cert.base.clauses c.args.goal c.args.cert.excludes circuit c.lits.ensures.well_formed c.requires.goal
+        bars = bars s.circuit s.lits c.args.cert.base.clauses c.args.goal c.args.cert.excludes circuit c.is_well_formed-2.ensures c.requires.goal
             (subst (λ (x : Parts). IsInvariant x c.args.cert.base.clauses) (c.requires.base ∙ sym c.requires.circuit) (is_invariant c.args.cert.base c.is_checked.ensures.base))
             accepted;
       };
