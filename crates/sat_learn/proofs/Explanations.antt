@@ -35,7 +35,7 @@ apart_before t place p m h there before same =
     let one = one_place t.assignments found.0 place found.1 p h.distinct found.2 there (ap nat_abs found.3 ∙ same) in
     absurd (omega arith)
 
-denying_one_way : (t : TrailState) (place : ℕ) (p : Assignment) → IsTrail t → StandsAt t.assignments place p → IsBothWays (denying t.assignments place p.lit) → ⊥
+pub denying_one_way : (t : TrailState) (place : ℕ) (p : Assignment) → IsTrail t → StandsAt t.assignments place p → IsBothWays (denying t.assignments place p.lit) → ⊥
 denying_one_way t place p h there both =
     let l = both.0 in
     let before = lits (take place t.assignments) in
@@ -52,7 +52,7 @@ denying_one_way t place p h there both =
       ]
     ]
 
-denying_before : (assignments : List Assignment) (place : ℕ) (l m : ℤ) → has (lits (take place assignments)) m ≡ true → has (denying assignments place l) m ≡ true
+pub denying_before : (assignments : List Assignment) (place : ℕ) (l m : ℤ) → has (lits (take place assignments)) m ≡ true → has (denying assignments place l) m ≡ true
 denying_before assignments place l m h =
     has-append (lits (take place assignments)) (neg_ℤ l ∷ []) m ∙ or_left (has (lits (take place assignments)) m) (has (neg_ℤ l ∷ []) m) h
 
@@ -65,7 +65,7 @@ denying_last t place p m h there inside same =
     ]
 
 -- one of the variable of an earlier literal is that
-denying_first : (t : TrailState) (place : ℕ) (p : Assignment) (i : ℕ) (q : Assignment) (m : ℤ) → IsTrail t → StandsAt t.assignments place p → StandsAt t.assignments i q → i < place → has (denying t.assignments place p.lit) m ≡ true → nat_abs m ≡ nat_abs q.lit → m ≡ q.lit
+pub denying_first : (t : TrailState) (place : ℕ) (p : Assignment) (i : ℕ) (q : Assignment) (m : ℤ) → IsTrail t → StandsAt t.assignments place p → StandsAt t.assignments i q → i < place → has (denying t.assignments place p.lit) m ≡ true → nat_abs m ≡ nat_abs q.lit → m ≡ q.lit
 denying_first t place p i q m h there here lt inside same =
     elim (assumed_more (lits (take place t.assignments)) (neg_ℤ p.lit) m inside) [
       | inl e ↦ (let found = true_before t.assignments place m e in
@@ -75,7 +75,7 @@ denying_first t place p i q m h there here lt inside same =
     ]
 
 -- the antecedent's other literals are false by literals before the place too
-antecedent_before : (clauses : List (List ℤ)) (proof_ids : List ℕ) (t : TrailState) (place : ℕ) (i : ℕ) (q : Assignment) (antecedent : List ℤ) (hint : ℤ) (m : ℤ) → IsTrail t → StandsAt t.assignments i q → IsAntecedent clauses proof_ids t.assignments i q antecedent hint → i < place → has antecedent m ≡ true → (m ≡ q.lit → ⊥) → has (lits (take place t.assignments)) (neg_ℤ m) ≡ true
+pub antecedent_before : (clauses : List (List ℤ)) (proof_ids : List ℕ) (t : TrailState) (place : ℕ) (i : ℕ) (q : Assignment) (antecedent : List ℤ) (hint : ℤ) (m : ℤ) → IsTrail t → StandsAt t.assignments i q → IsAntecedent clauses proof_ids t.assignments i q antecedent hint → i < place → has antecedent m ≡ true → (m ≡ q.lit → ⊥) → has (lits (take place t.assignments)) (neg_ℤ m) ≡ true
 antecedent_before clauses proof_ids t place i q antecedent hint m h here known lt inside differs =
     let before = earlier clauses proof_ids t i q antecedent hint m h here known inside differs in
     let near = before.4 in

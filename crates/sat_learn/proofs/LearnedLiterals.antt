@@ -1,6 +1,6 @@
 -- The learned clause from what is marked in the end.
 use Rattle.std.proofs.Common.{◌≡◌, ℕ, ◌+◌, ◌<◌, ◌≤◌, max, Bool, true, false, cond, eqb, ℤ, neg_ℤ, nat_abs, List, [], ◌∷◌, ◌++◌, length, map, take, get_or, refl, ap, sym, ◌∙◌, subst, arith, inl, inr}
-use Rattle.std.specs.List.{list_any, IsDistinct}
+use Rattle.std.specs.List.{All, list_any, IsDistinct}
 use Rattle.std.proofs.lemmas.Bool.{cases_lt, cases_Bool, or_cases, or_left, or_right, or_parts, both_ways, eq-eqb, false_from_ne_true}
 use Rattle.std.proofs.lemmas.List.{take_more}
 use Rattle.std.proofs.lemmas.List.Elements.{All-cons}
@@ -36,7 +36,7 @@ free_upto t l level k h x lt =
     let level_is : found.1.level ≡ level = ap (λ (p : Assignment). p.level) same ∙ x.at_level in
     absurd (omega arith))
 
-false_literal : (t : TrailState) (l : ℤ) → IsTrail t → has (lits t.assignments) (neg_ℤ l) ≡ true → IsLiteral t.vars l
+pub false_literal : (t : TrailState) (l : ℤ) → IsTrail t → has (lits t.assignments) (neg_ℤ l) ≡ true → IsLiteral t.vars l
 false_literal t l h there =
     let literal = true_literal t (neg_ℤ l) h there in
     let P : ℕ → Type 0 = λ n. n ≤ t.vars in
@@ -106,8 +106,8 @@ first_uip_false t marks kept place first h =
       at_level = h.at_level;
     }
 
-pub learned_from : (t : TrailState) (marks : List Bool) (kept : List ℤ) (place : ℕ) (first : ℤ) (backjump_level : ℕ) (hints : List ℤ) (roots : List ℕ) (h : IsResolved t marks kept place first) → IsTrail t → IsGreatestLevel t kept backjump_level → AreAtRoot t.assignments roots → IsLearned t (record { lits = first ∷ kept; backjump_level = backjump_level; hints = hints; roots = roots })
-learned_from t marks kept place first backjump_level hints roots h trail greatest at_root =
+pub learned_from : (t : TrailState) (marks : List Bool) (kept : List ℤ) (place : ℕ) (first : ℤ) (backjump_level : ℕ) (hints : List ℤ) (roots : List ℕ) (met : List ℤ) (h : IsResolved t marks kept place first) → IsTrail t → IsGreatestLevel t kept backjump_level → AreAtRoot t.assignments roots → All (IsLiteral t.vars) met → IsLearned t (record { lits = first ∷ kept; backjump_level = backjump_level; hints = hints; roots = roots; met = met })
+learned_from t marks kept place first backjump_level hints roots met h trail greatest at_root met_in_range =
     let is = h.negated in
     let first_uip = first_uip_false t marks kept place first h in
     let above = h.above in
@@ -136,6 +136,7 @@ learned_from t marks kept place first backjump_level hints roots h trail greates
         | inr some ↦ (some.0, some.1, free_upto t some.0 backjump_level k trail some.2 lt)
       ];
       at_root = at_root;
+      met_in_range = met_in_range;
     }
 
 -- nothing is marked when these are unmarked

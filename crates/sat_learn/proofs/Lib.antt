@@ -3,6 +3,7 @@ pub mod Refutation
 pub mod Counts
 pub mod Antecedents
 pub mod Explanations
+pub mod Implications
 pub mod MarkedLiterals
 pub mod Tracking
 pub mod ResolveStep

@@ -17,12 +17,14 @@ IsFreeUpto level assignments l = IsFalse (has (lits (upto level assignments)) (n
 abbrev pub AreAtRoot : List Assignment → List ℕ → Type 0
 AreAtRoot assignments places = All (λ place. place < length (upto 0 assignments)) places
 
--- a clause, the level to go back to, the hints by which the clause follows, and the places of level 0 that they resolve
+-- a clause, the level to go back to, the hints by which the clause follows, the places of level 0 that they resolve, and the
+-- literals that the analysis met
 pub record LearnedState : Type 0 where
   pub lits : List ℤ
   pub backjump_level : ℕ
   pub hints : List ℤ
   pub roots : List ℕ
+  pub met : List ℤ
 
 -- at the level to go back to all literals of the clause are false but the first, which is false at the present level alone
 pub record IsLearned (t : TrailState) (learned : LearnedState) : Type 0 where
@@ -38,3 +40,4 @@ pub record IsLearned (t : TrailState) (learned : LearnedState) : Type 0 where
   -- below that level one of them isn't false
   pub backjump_least : (k : ℕ) → k < learned.backjump_level → (l : ℤ) × IsTrue (has others l) × IsFreeUpto k t.assignments l
   pub at_root : AreAtRoot t.assignments learned.roots
+  pub met_in_range : All (IsLiteral t.vars) learned.met

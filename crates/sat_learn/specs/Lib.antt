@@ -1,4 +1,5 @@
 pub mod Explaining
+pub mod Implying
 pub mod Learned
 pub mod Premises
 pub mod Reasons

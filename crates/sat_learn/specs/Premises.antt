@@ -5,6 +5,7 @@ use Rattle.sat_learn.specs.declared.premises.Premises.{Premises}
 use Rattle.sat_learn.specs.Reasons.{HaveIds}
 use Rattle.sat_learn.specs.Resolving.{IsExplained, IsAntecedent, Resolves}
 use Rattle.sat_learn.specs.Explaining.{IsExplanation, IsFound}
+use Rattle.sat_learn.specs.Implying.{IsTracedTo}
 
 -- each assigned literal has its reason among them
 abbrev pub AreExplained : Premises → Type 0
@@ -29,3 +30,7 @@ IsFoundIn p ls old_marks old_hints marks hints = IsFound p.book.clauses p.proof_
 -- the clause of the literal at a place alone follows from them by these hints
 abbrev pub IsExplanationIn : Premises → ℕ → List ℤ → Type 0
 IsExplanationIn p place hints = IsExplanation p.book.clauses p.proof_ids.items p.trail.assignments place hints
+
+-- the literal at a place is explained down to another by them
+abbrev pub IsTracedIn : Premises → ℕ → Assignment → ℕ → List Bool → List ℤ → List ℤ → Type 0
+IsTracedIn s top p place marks ls hints = IsTracedTo s.book.clauses s.proof_ids.items s.trail.assignments top p place marks ls hints

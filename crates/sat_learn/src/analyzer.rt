@@ -1,13 +1,16 @@
 //! Learning from a conflict.
 
-ghost use Rattle.std.specs.Prelude.{◌≡◌, [], ◌<◌, ◌≤◌, ◌-◌, ◌^◌, ℕ, ℤ, List, length, map, neg_ℤ, All, IfOk, IfSome};
+ghost use Rattle.std.specs.Prelude.{◌≡◌, [], ◌<◌, ◌≤◌, ◌-◌, ◌^◌, ℕ, ℤ, List, length, map, neg_ℤ, All, IfOk, IfSome, IsSome};
 ghost use Rattle.cnf_base.specs.Status.{IsFalsifiedIn};
-ghost use Rattle.sat_trail.specs.Trail.{lits, upto};
+ghost use Rattle.sat_trail.specs.Trail.{Assignment, lits, upto};
 ghost use Rattle.sat_learn.specs.Premises.{AreLive, IsExplanationIn};
 ghost use Rattle.sat_learn.specs.Reasons.{AreReasons, HasId, Follows};
+ghost use Rattle.sat_learn.specs.Resolving.{StandsAt};
+ghost use Rattle.sat_learn.specs.Implying.{ImpliesByDecisions};
 ghost use Rattle.sat_learn.specs.Learned.{IsLearned};
 
 use crate::explanation::explain_marked;
+use crate::implication::{Implication, trace};
 use crate::learned_clause::LearnedClause;
 use crate::minimize::Visit;
 use crate::premises::Premises;
@@ -140,5 +143,23 @@ impl Analyzer {
                 Err(OutOfMemory)
             }
         }
+    }
+
+    /// The clause of a true literal that is no decision, and of the negations of decisions that imply it.
+    pub fn imply(&mut self, premises: &Premises, lit: CnfLit) -> Result<Implication, OutOfMemory>
+        requires vars { premises.now.trail.vars ≡ self.old }
+        requires reasons { AreReasons premises.now.book.clauses [] premises.now.trail.assignments }
+        requires proof_ids { length premises.now.proof_ids.items ≡ length premises.now.book.clauses }
+        requires small_ids { All (λ name. name < 2 ^ 62) premises.now.proof_ids.items }
+        requires implied { (place : ℕ) × (p : Assignment) × StandsAt premises.now.trail.assignments place p × (p.lit ≡ lit) × IsSome p.reason }
+        ensures vars { self.new ≡ self.old }
+        ensures implication { IfOk result (λ found. ImpliesByDecisions premises.now.trail.assignments lit found.lits.items) }
+        ensures follows { IfOk result (λ found. (live : List (ℕ × List ℤ)) → AreLive live premises.now → Follows live (map neg_ℤ found.lits.items) found.hints) }
+    {
+        premises.trail.is_well_formed();
+        premises.trail.is_well_formed();
+        let found = trace(self.alloc, premises, &mut self.marks, lit);
+        self.marks.fill(false);
+        found
     }
 }

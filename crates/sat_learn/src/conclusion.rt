@@ -1,6 +1,7 @@
 //! The learned clause from what is marked in the end.
 
 ghost use Rattle.std.specs.Prelude.{◌≡◌, ℕ, ℤ, List, ◌≤◌, ◌<◌, IsTrue, All, false, neg_ℤ, nat_abs, length, map, reverse, IsPermutation, slice_index_or, IfOk, OnOk};
+ghost use Rattle.cnf_base.specs.Dimacs.{IsLiteral};
 ghost use Rattle.cnf_base.specs.Status.{has};
 ghost use Rattle.sat_trail.specs.Trail.{lits, IsTrail};
 ghost use Rattle.sat_learn.specs.Learned.{AreAtRoot, IsLearned};
@@ -96,11 +97,13 @@ pub fn conclude(
     marks: &mut [bool],
     analysis: Analysis,
     roots: Vec<u32>,
+    met: Vec<CnfLit>,
     place: u32,
 ) -> Result<LearnedClause, OutOfMemory>
     requires trail { IsTrail trail.now }
     requires minimized { IsMinimized trail.now marks.old analysis.kept.items place }
     requires roots { AreAtRoot trail.now.assignments roots.items }
+    requires met { All (IsLiteral trail.now.vars) met.items }
     ensures learned { IfOk result (IsLearned trail.now) }
     ensures marks { OnOk result ((v : ℕ) → slice_index_or marks.new v false ≡ false) }
     ensures follows { IfOk result (λ learned. (live : List (ℕ × List ℤ)) → Refutes live (lits trail.now.assignments) marks.old (reverse analysis.hints.items)
@@ -115,5 +118,5 @@ pub fn conclude(
     sort_by_level(trail, &mut kept);
     let drawn = draw(alloc, trail, marks, &kept, place)?;
     let backjump_level = greatest_level(trail, &drawn[1..]);
-    Ok(new_learned(drawn, backjump_level, hints, roots))
+    Ok(new_learned(drawn, backjump_level, hints, roots, met))
 }

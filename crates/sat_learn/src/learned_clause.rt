@@ -6,13 +6,15 @@ use cnf_base::CnfLit;
 use lrat_text::Hints;
 use std::marker::Model;
 
-/// A clause, the level to go back to, the hints by which the clause follows, and which literals of level 0 they resolve.
+/// A clause, the level to go back to, the hints by which the clause follows, which literals of level 0 they resolve, and
+/// which literals above level 0 the analysis met.
 #[derive(Debug, Drop)]
 pub struct LearnedClause {
     lits: Vec<CnfLit>,
     backjump_level: u32,
     hints: Hints,
     roots: Vec<u32>,
+    met: Vec<CnfLit>,
 }
 
 impl Model for LearnedClause {
@@ -20,7 +22,7 @@ impl Model for LearnedClause {
 
     ghost Value = { LearnedState };
 
-    ghost view = { λ l. record { lits = l.lits.items; backjump_level = l.backjump_level; hints = l.hints; roots = l.roots.items } };
+    ghost view = { λ l. record { lits = l.lits.items; backjump_level = l.backjump_level; hints = l.hints; roots = l.roots.items; met = l.met.items } };
 }
 
 /// The hints come from the last to the first.
@@ -29,14 +31,16 @@ pub fn new_learned(
     backjump_level: u32,
     hints: Vec<i64>,
     roots: Vec<u32>,
+    met: Vec<CnfLit>,
 ) -> LearnedClause
-    ensures { result ≡ record { lits = lits.items; backjump_level = backjump_level; hints = reverse hints.items; roots = roots.items } }
+    ensures { result ≡ record { lits = lits.items; backjump_level = backjump_level; hints = reverse hints.items; roots = roots.items; met = met.items } }
 {
     LearnedClause {
         lits,
         backjump_level,
         hints: in_order(hints),
         roots,
+        met,
     }
 }
 
@@ -67,6 +71,14 @@ impl LearnedClause {
         ensures { result.now ≡ self.now.roots }
     {
         self.roots.as_slice()
+    }
+
+    /// The literals above level 0 that the analysis met: of each variable one, those of the clause that is false and of the
+    /// reasons that were resolved until one literal of the present level was left.
+    pub fn met(&self) -> &[CnfLit]
+        ensures { result.now ≡ self.now.met }
+    {
+        self.met.as_slice()
     }
 
     pub fn into_hints(self) -> Hints

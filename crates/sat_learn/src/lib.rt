@@ -7,6 +7,7 @@ mod antecedent;
 mod conclusion;
 mod explanation;
 mod first_uip;
+mod implication;
 mod learned_clause;
 mod marks;
 mod minimize;
@@ -15,5 +16,6 @@ mod resolution;
 mod roots;
 
 pub use analyzer::Analyzer;
+pub use implication::Implication;
 pub use learned_clause::LearnedClause;
 pub use premises::Premises;

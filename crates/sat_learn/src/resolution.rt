@@ -72,10 +72,11 @@ pub fn resolve_conflict(
     let mut analysis = new_analysis(alloc);
     analysis.hints.push(hint)?;
     note_all(&premises.trail, marks, &mut analysis, conflict)?;
-    let place = resolve(premises, marks, &mut analysis)?;
+    let mut met = Vec::new(alloc);
+    let place = resolve(premises, marks, &mut analysis, &mut met)?;
     minimize_clause(alloc, premises, marks, visits, &mut analysis)?;
     let roots = resolve_any_roots(alloc, premises, marks, &mut analysis)?;
-    let learned = conclude(alloc, &premises.trail, marks, analysis, roots, place)?;
+    let learned = conclude(alloc, &premises.trail, marks, analysis, roots, met, place)?;
     Ok(learned)
 }
 

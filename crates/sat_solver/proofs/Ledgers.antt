@@ -134,6 +134,7 @@ IsRefutation-end formula lemmas steps id hints ledger le is small follows =
     record {
       accepted = AcceptedFrom-end (start formula) formula.clauses steps id hints ledger.spent (MayAdd-next formula steps id [] hints ledger is follows.ends);
       within = omega (arith, lemma_count-end steps id hints);
+      short = omega (arith, length-append steps (Add id [] hints ∷ []));
       written = written_push steps (Add id [] hints) ledger.written (step_written formula steps id [] hints is small follows.live_hints);
     }
 

@@ -72,7 +72,7 @@ pub record AreValuesOf (vars : ℕ) (t : TrailState) (bits : List Bool) : Type 0
   pub assigned : (x : ℕ) → 0 < x → x ≤ vars → is_unassigned t.assignments x ≡ false
   pub each : (x : ℕ) → 0 < x → x ≤ vars → get_or bits (x - 1) false ≡ has (lits t.assignments) (pos x)
 
-literal_true : (vars : ℕ) (t : TrailState) (bits : List Bool) (l : ℤ) → AreValuesOf vars t bits → IsLiteral vars l → has (lits t.assignments) l ≡ true → lit_true (value_of bits) l ≡ true
+pub literal_true : (vars : ℕ) (t : TrailState) (bits : List Bool) (l : ℤ) → AreValuesOf vars t bits → IsLiteral vars l → has (lits t.assignments) l ≡ true → lit_true (value_of bits) l ≡ true
 literal_true vars t bits (pos zero) h in_range k = refl
 literal_true vars t bits (pos (suc n)) h in_range k = h.each (suc n) (omega arith) in_range.variable ∙ k
 literal_true vars t bits (negsuc n) h in_range k =

@@ -12,10 +12,11 @@ use Rattle.lrat_text.specs.declared.proof.LratStep.{LratStep}
 use Rattle.lrat_text.specs.declared.proof.LratStep.TheVariants.{Add}
 use Rattle.lrat_text.specs.Accepted.{IsBothWays}
 use Rattle.lrat_text.specs.Spent.{ContainsAll}
+use Rattle.sat_trail.specs.declared.clause_id.ClauseId.{ClauseId}
 use Rattle.sat_trail.specs.declared.clause_id.ClauseId.TheVariants as ids
 use Rattle.sat_trail.specs.Trail.{Assignment, TrailState, with_reason, IsTrail}
 use Rattle.sat_watch.specs.Book.{BookState, IsBookClause}
-use Rattle.sat_learn.specs.Reasons.{Follows}
+use Rattle.sat_learn.specs.Reasons.{Follows, HasId}
 use Rattle.sat_solver.specs.Ledger.{earlier, live, IsLedger}
 use Rattle.sat_solver.specs.Sound.{root, IsCovered, IsSound}
 use Rattle.sat_solver.proofs.Growth.{IsCovered-more_assignments}
@@ -106,26 +107,30 @@ ledger_named formula steps proof_ids b t l place id hints h =
     (subst W h.sound.trail_vars (All-cons (λ m. nat_abs m ≤ t.vars) l [] literal.variable (All-nil (λ m. nat_abs m ≤ t.vars))))
     earned
 
+-- a literal of level 0 rests on a unit clause from then on
+pub sound_rested : (vars : ℕ) (pairs : List (ℕ × List ℤ)) (done : List (List ℤ)) (proof_ids : List ℕ) (b : BookState) (t : TrailState) (l : ℤ) (reason : ClauseId) (id : ℕ) → IsSound vars pairs done proof_ids b t → IsTrail t → Contains t.assignments (root l reason) → id < 2 ^ 62 → HasId pairs id (l ∷ []) → IsSound vars pairs done proof_ids b (record t { assignments = map (with_reason (nat_abs l) (ids.Unit id)) t.assignments })
+sound_rested vars pairs done proof_ids b t l reason id s trail stands small has_id =
+    let assignments = map (with_reason (nat_abs l) (ids.Unit id)) t.assignments in
+    record {
+      book_vars = s.book_vars;
+      trail_vars = s.trail_vars;
+      reasons = reasons_with_reason b.clauses [] (nat_abs l) id t.assignments small s.reasons;
+      has_id = with_id_with_reason pairs b.clauses proof_ids t (root l reason) id trail stands has_id s.has_id;
+      one_id = s.one_id;
+      small_ids = s.small_ids;
+      covered = λ c there. IsCovered-more_assignments b.clauses t.assignments assignments c (units_with_reason (nat_abs l) id t.assignments) (s.covered c there);
+    }
+
 pub sound_named : (formula : CnfFormula) (steps : List LratStep) (proof_ids : List ℕ) (b : BookState) (t : TrailState) (l : ℤ) (place id : ℕ) (hints : List ℤ) → CanBeRootLemma formula steps proof_ids b t l place id hints → IsSound formula.vars (live formula (steps ++ Add id (l ∷ []) hints ∷ [])) (earlier formula (steps ++ Add id (l ∷ []) hints ∷ [])) proof_ids b (record t { assignments = map (with_reason (nat_abs l) (ids.Unit id)) t.assignments })
 sound_named formula steps proof_ids b t l place id hints h =
     let step = Add id (l ∷ []) hints in
     let pairs = live formula (steps ++ step ∷ []) in
     let known = earlier formula steps in
-    let p = root l (ids.Book place) in
-    let assignments = map (with_reason (nat_abs l) (ids.Unit id)) t.assignments in
-    let new : TrailState = record t { assignments = assignments } in
+    let new : TrailState = record t { assignments = map (with_reason (nat_abs l) (ids.Unit id)) t.assignments } in
     let P : List (ℕ × List ℤ) → Type 0 = λ ps. IsSound formula.vars ps known proof_ids b t in
     let s = subst P (sym (live-push formula steps id (l ∷ []) hints h.id_is)) (sound_more_live formula.vars (live formula steps) ((id, l ∷ []) ∷ []) known proof_ids b t h.sound) in
     let has_id = newest_with_id formula steps id (l ∷ []) hints h.id_is in
-    let rested : IsSound formula.vars pairs known proof_ids b new = record {
-      book_vars = s.book_vars;
-      trail_vars = s.trail_vars;
-      reasons = reasons_with_reason b.clauses [] (nat_abs l) id t.assignments h.small s.reasons;
-      has_id = with_id_with_reason pairs b.clauses proof_ids t p id h.trail h.stands has_id s.has_id;
-      one_id = s.one_id;
-      small_ids = s.small_ids;
-      covered = λ c there. IsCovered-more_assignments b.clauses t.assignments assignments c (units_with_reason (nat_abs l) id t.assignments) (s.covered c there);
-    } in
+    let rested = sound_rested formula.vars pairs known proof_ids b t l (ids.Book place) id s h.trail h.stands h.small has_id in
     let Q : List (List ℤ) → Type 0 = λ cs. IsSound formula.vars pairs cs proof_ids b new in
     subst Q (sym (earlier-push formula steps id (l ∷ []) hints))
     (sound_with_done formula.vars pairs known proof_ids b new (l ∷ []) rested (inr (inl (l, id, (λ x. refl), root_with_reason t.assignments l id (ids.Book place) h.stands))))

@@ -91,7 +91,7 @@ assignment_of_true (q ∷ qs) l h =
       | inr e ↦ (let found = assignment_of_true qs l e in (found.0, Contains-append_right (q ∷ []) qs found.0 found.1, found.2))
     ]
 
-level_upto : (k : ℕ) (ps : List Assignment) (p : Assignment) → Contains (upto k ps) p → p.level ≤ k
+pub level_upto : (k : ℕ) (ps : List Assignment) (p : Assignment) → Contains (upto k ps) p → p.level ≤ k
 level_upto k [] p (i, lt, is) = absurd (grind arith)
 level_upto k (q ∷ qs) p h =
     elim (cases_Bool (leb q.level k)) [

@@ -18,8 +18,8 @@ use Rattle.sat_solver.proofs.SearchPlace.{first_passed}
 use Rattle.sat_solver.proofs.Ledgers.{IsLedger-none}
 use Rattle.sat_solver.proofs.States.{loaded_whole}
 
-pub begun : (formula : CnfFormula) (done : List (List ℤ)) (s : Search) (vars : ℕ) → length formula.clauses < 2 ^ 60 → vars ≡ formula.vars → s.steps ≡ [] → s.queue ≡ range_with_len 1 vars → s.phases ≡ vars → s.analyzer ≡ vars → s.considered ≡ vars → s.conflicts ≡ 0 → IsSound formula.vars (live formula []) done s.premises.proof_ids.items s.premises.book s.premises.trail → IsSearch formula done s
-begun formula done s vars few same none queue phases analyzer considered conflicts sound =
+pub begun : (formula : CnfFormula) (done : List (List ℤ)) (s : Search) (vars : ℕ) → length formula.clauses < 2 ^ 60 → vars ≡ formula.vars → s.steps ≡ [] → s.queue ≡ range_with_len 1 vars → s.ranks ≡ vars → s.phases ≡ vars → s.analyzer ≡ vars → s.considered ≡ vars → s.conflicts ≡ 0 → IsSound formula.vars (live formula []) done s.premises.proof_ids.items s.premises.book s.premises.trail → IsSearch formula done s
+begun formula done s vars few same none queue ranks phases analyzer considered conflicts sound =
     let L : List LratStep → Type 0 = λ steps. IsLedger formula steps in
     let S : List LratStep → Type 0 = λ steps. IsSound formula.vars (live formula steps) done s.premises.proof_ids.items s.premises.book s.premises.trail in
     let empty : length s.steps ≡ 0 = ap length none in
@@ -29,6 +29,7 @@ begun formula done s vars few same none queue phases analyzer considered conflic
       ledger = subst L (sym none) (IsLedger-none formula);
       sound = subst S (sym none) sound;
       queue_vars = ap length queue ∙ length-range_with_len 1 vars ∙ same;
+      ranks_vars = ranks ∙ same;
       phases_vars = phases ∙ same;
       analyzer_vars = analyzer ∙ same;
       considered_vars = considered ∙ same;
@@ -45,13 +46,13 @@ ready_loaded formula count proof_ids b t h =
       none_unit = λ k lt. absurd (omega arith);
     }
 
-pub first_turn : (formula : CnfFormula) (lemmas : ℕ) (s : Search) (vars : ℕ) → length formula.clauses < 2 ^ 60 → lemmas ≤ 2 ^ 60 → vars ≡ formula.vars → s.steps ≡ [] → s.queue ≡ range_with_len 1 vars → s.from ≡ slice_get s.queue 0 → s.phases ≡ vars → s.analyzer ≡ vars → s.considered ≡ vars → s.conflicts ≡ 0 → IsLoaded formula (length formula.clauses) s.premises.proof_ids.items s.premises.book s.premises.trail → IsSearchState formula lemmas s
-first_turn formula lemmas s vars few few_lemmas same none queue from phases analyzer considered conflicts loaded =
+pub first_turn : (formula : CnfFormula) (lemmas : ℕ) (s : Search) (vars : ℕ) → length formula.clauses < 2 ^ 60 → lemmas ≤ 2 ^ 60 → vars ≡ formula.vars → s.steps ≡ [] → s.queue ≡ range_with_len 1 vars → s.ranks ≡ vars → s.from ≡ slice_get s.queue 0 → s.phases ≡ vars → s.analyzer ≡ vars → s.considered ≡ vars → s.conflicts ≡ 0 → IsLoaded formula (length formula.clauses) s.premises.proof_ids.items s.premises.book s.premises.trail → IsSearchState formula lemmas s
+first_turn formula lemmas s vars few few_lemmas same none queue ranks from phases analyzer considered conflicts loaded =
     let D : List LratStep → Type 0 = λ steps. IsSearch formula (earlier formula steps) s in
     let P : Option ℕ → Type 0 = λ at. IsPassed s.queue s.premises.trail.assignments at in
     let empty : length s.steps ≡ 0 = ap length none in
     record {
-      search = subst D (sym none) (begun formula (earlier formula []) s vars few same none queue phases analyzer considered conflicts (loaded_whole formula s.premises.proof_ids.items s.premises.book s.premises.trail loaded));
+      search = subst D (sym none) (begun formula (earlier formula []) s vars few same none queue ranks phases analyzer considered conflicts (loaded_whole formula s.premises.proof_ids.items s.premises.book s.premises.trail loaded));
       ready = ready_loaded formula (length formula.clauses) s.premises.proof_ids.items s.premises.book s.premises.trail loaded;
       passed = subst P (sym from) (first_passed s.queue s.premises.trail.assignments);
       within = omega arith;

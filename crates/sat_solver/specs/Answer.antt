@@ -1,5 +1,5 @@
 -- What each answer of the solver says.
-use Rattle.std.specs.Prelude.{ℕ, suc, ◌≤◌, ℤ, List, [], ◌∷◌}
+use Rattle.std.specs.Prelude.{ℕ, suc, ◌≤◌, ℤ, List, [], ◌∷◌, length}
 use Rattle.std.specs.List.{AllByRecursion}
 use Rattle.cnf_base.specs.Meaning.{CnfFormula, IsModel}
 use Rattle.lrat_text.specs.declared.proof.LratStep.{LratStep}
@@ -23,6 +23,8 @@ lemma_count (Delete at ids ∷ steps) = lemma_count steps
 pub record IsRefutation (formula : CnfFormula) (lemmas : ℕ) (proof : List LratStep) : Type 0 where
   pub accepted : Accepted formula proof
   pub within : lemma_count proof ≤ lemmas
+  -- one step more than that, which adds the empty clause
+  pub short : length proof ≤ suc lemmas
   -- its text spells it again
   pub written : AllByRecursion HasIdsAndHints proof
 

@@ -13,6 +13,7 @@ pub record IsSearch (formula : CnfFormula) (done : List (List ℤ)) (s : Search)
   pub ledger : IsLedger formula s.steps
   pub sound : IsSound formula.vars (live formula s.steps) done s.premises.proof_ids.items s.premises.book s.premises.trail
   pub queue_vars : length s.queue ≡ formula.vars
+  pub ranks_vars : s.ranks ≡ formula.vars
   pub phases_vars : s.phases ≡ formula.vars
   pub considered_vars : s.considered ≡ formula.vars
   pub analyzer_vars : s.analyzer ≡ formula.vars

@@ -1,6 +1,6 @@
 //! A lemma, into the proof, the book and the queue.
 
-ghost use Rattle.std.specs.Prelude.{◌≡◌, ◌+◌, ◌<◌, ◌≤◌, ◌^◌, ◌++◌, ℤ, List, nat_abs, All, length, OnOk};
+ghost use Rattle.std.specs.Prelude.{◌≡◌, ◌+◌, ◌<◌, ◌≤◌, ◌^◌, ◌++◌, ℤ, List, nat_abs, All, IsPermutation, length, OnOk};
 ghost use Rattle.cnf_base.specs.Dimacs.{IsLiteral};
 ghost use Rattle.sat_trail.specs.Trail.{Assignment, upto};
 ghost use Rattle.sat_watch.specs.Ready.{IsReady};
@@ -10,6 +10,7 @@ ghost use Rattle.sat_solver.specs.Ledger.{earlier};
 ghost use Rattle.sat_solver.specs.SearchInvariant.{IsSearch};
 ghost use Rattle.sat_solver.specs.LearnedLemma.{IsLearnedFrom};
 
+use crate::ranks::Ranks;
 use crate::refutation::next_id;
 use crate::restart::count_levels;
 use crate::search::Search;
@@ -21,19 +22,49 @@ use sat_queue::VarQueue;
 use sat_trail::ClauseId;
 use std::alloc::Global;
 
-/// Brings the variables of a lemma to the front, from its last literal to its first.
-fn bring_to_front(queue: &mut VarQueue, lits: &[CnfLit])
-    requires { All (IsLiteral (length queue.old)) lits.now }
-    ensures { length queue.new ≡ length queue.old }
+/// Sorts literals by the order of their variables in the queue.
+fn sort_by_queue(ranks: &Ranks, lits: &mut [CnfLit])
+    ensures { IsPermutation lits.old lits.new }
+{
+    lits.sort_unstable_by_key(|lit| ranks.of(lit.var()));
+}
+
+/// Brings the variables of these literals to the front of the queue, from the last to the first.
+fn bring_to_front(queue: &mut VarQueue, ranks: &mut Ranks, lits: &[CnfLit])
+    requires in_range { All (IsLiteral (length queue.old)) lits.now }
+    requires ranks { ranks.old ≡ length queue.old }
+    ensures queue { length queue.new ≡ length queue.old }
+    ensures ranks { ranks.new ≡ ranks.old }
 {
     for index in (0..lits.len()).rev() {
+        let var = lits[index].var();
         queue.is_well_formed();
-        queue.to_front(lits[index].var());
+        queue.to_front(var);
+        ranks.note_front(var);
     }
 }
 
+/// Brings the variables that an analysis met to the front of the queue. Among themselves they keep their order, so that the
+/// search goes on with those that were met often (Biere and Fröhlich, 2015).
+pub fn bump(
+    alloc: Global,
+    queue: &mut VarQueue,
+    ranks: &mut Ranks,
+    learned: &LearnedClause,
+) -> Result<(), OutOfMemory>
+    requires met { All (IsLiteral (length queue.old)) learned.now.met }
+    requires ranks { ranks.old ≡ length queue.old }
+    ensures queue { length queue.new ≡ length queue.old }
+    ensures ranks { ranks.new ≡ ranks.old }
+{
+    let mut met = Vec::from_slice(alloc, learned.met())?;
+    sort_by_queue(ranks, &mut met);
+    bring_to_front(queue, ranks, &met);
+    Ok(())
+}
+
 /// A unit clause goes on the trail, and any other into the book. `id` is its id in the proof.
-fn attach(premises: &mut Premises, clause: &Clause, id: u64) -> Result<(), OutOfMemory>
+pub fn attach(premises: &mut Premises, clause: &Clause, id: u64) -> Result<(), OutOfMemory>
     requires vars { premises.old.trail.vars ≡ premises.old.book.vars }
     requires fits { CanAttach clause.now premises.old.book premises.old.trail }
     ensures { OnOk result (Attaches clause.now id premises.old.book premises.old.trail premises.old.proof_ids.items premises.new.book premises.new.trail premises.new.proof_ids.items) }
@@ -77,7 +108,7 @@ pub fn add_lemma(
     search.premises.trail.back_to(level);
     search.premises.trail.is_well_formed();
     attach(&mut search.premises, &lemma, id)?;
-    bring_to_front(&mut search.queue, lemma.as_slice());
+    bump(alloc, &mut search.queue, &mut search.ranks, &learned)?;
     search.from = search.queue.first();
     search.steps.push(LratStep::Add {
         id,

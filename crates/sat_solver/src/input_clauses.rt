@@ -34,7 +34,7 @@ fn load_unit(trail: &mut Trail, lit: CnfLit, id: u64) -> bool
 }
 
 /// Adds a clause to the book, without the literals that it repeats: `plain` has each literal once.
-fn add_clause(
+pub fn add_clause(
     alloc: Global,
     premises: &mut Premises,
     clause: &Clause,

@@ -5,6 +5,7 @@ ghost use Rattle.std.specs.List.{range_with_len};
 
 use crate::considered::Considered;
 use crate::phases::Phases;
+use crate::ranks::Ranks;
 use crate::restart::Restarts;
 use ketch_base::OutOfMemory;
 use lrat_text::Proof;
@@ -18,6 +19,7 @@ use std::alloc::Global;
 pub struct Search {
     pub premises: Premises,
     pub queue: VarQueue,
+    pub ranks: Ranks,
     /// A variable of the queue before which all are assigned; none where there is no variable.
     pub from: Option<u32>,
     pub phases: Phases,
@@ -31,7 +33,7 @@ pub struct Search {
 }
 
 /// With no clause and nothing assigned.
-fn no_premises(alloc: Global, vars: u32) -> Result<Premises, OutOfMemory>
+pub fn no_premises(alloc: Global, vars: u32) -> Result<Premises, OutOfMemory>
     requires { vars ≤ 4000000 }
     ensures trail { IfOk result (λ p. p.trail ≡ record { vars = vars; assignments = []; level = 0; low = 0 }) }
     ensures book { IfOk result (λ p. p.book ≡ record { vars = vars; clauses = []; seen = [] }) }
@@ -52,6 +54,7 @@ impl Search {
         ensures proof_ids { IfOk result (λ s. s.premises.proof_ids.items ≡ []) }
         ensures steps { IfOk result (λ s. s.steps ≡ []) }
         ensures queue { IfOk result (λ s. s.queue ≡ range_with_len 1 vars) }
+        ensures ranks { IfOk result (λ s. s.ranks ≡ vars) }
         ensures from { IfOk result (λ s. s.from ≡ slice_get s.queue 0) }
         ensures phases { IfOk result (λ s. s.phases ≡ vars) }
         ensures analyzer { IfOk result (λ s. s.analyzer ≡ vars) }
@@ -63,6 +66,7 @@ impl Search {
         Ok(Search {
             premises: no_premises(alloc, vars)?,
             queue,
+            ranks: Ranks::new(alloc, vars)?,
             from,
             phases: Phases::new(alloc, vars)?,
             analyzer: Analyzer::new(alloc, vars)?,

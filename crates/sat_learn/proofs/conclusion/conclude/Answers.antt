@@ -34,10 +34,10 @@ returns-clause-learned c =
     let backjump_level = c.greatest_level-backjump_level.result in
     let hints = reverse c.args.analysis.hints.items in
     let rest_is : take (length c.deref-2.result.now - 1) (drop 1 c.deref-2.result.now) ≡ known.others = take_rest c.deref-2.result.now 1 ∙ ap (drop 1) (c.deref-2.ensures.value ∙ known.form) in
-    let made : List ℤ → LearnedState = λ ls. record { lits = ls; backjump_level = backjump_level; hints = hints; roots = c.args.roots.items } in
+    let made : List ℤ → LearnedState = λ ls. record { lits = ls; backjump_level = backjump_level; hints = hints; roots = c.args.roots.items; met = c.args.met.items } in
     let G : List ℤ → Type 0 = λ ls. IsGreatestLevel c.args.trail.now ls backjump_level in
     let L : LearnedState → Type 0 = λ l. IsLearned c.args.trail.now l in
-    subst L (sym (c.new_learned.ensures ∙ ap made known.form)) (learned_from c.args.trail.now c.args.marks.now known.others c.args.place known.first backjump_level hints c.args.roots.items known.resolved c.requires.trail (subst G rest_is c.greatest_level-backjump_level.ensures) c.requires.roots)
+    subst L (sym (c.new_learned.ensures ∙ ap made known.form)) (learned_from c.args.trail.now c.args.marks.now known.others c.args.place known.first backjump_level hints c.args.roots.items c.args.met.items known.resolved c.requires.trail (subst G rest_is c.greatest_level-backjump_level.ensures) c.requires.roots c.requires.met)
 
 pub returns-clause-marks : goal.returns-clause-marks
 returns-clause-marks c =
@@ -48,6 +48,6 @@ pub returns-clause-follows : goal.returns-clause-follows
 returns-clause-follows c live refutes =
     let known = c.in_ok-drawn.ensures in
     let hints = reverse c.args.analysis.hints.items in
-    let made : List ℤ → LearnedState = λ ls. record { lits = ls; backjump_level = c.greatest_level-backjump_level.result; hints = hints; roots = c.args.roots.items } in
+    let made : List ℤ → LearnedState = λ ls. record { lits = ls; backjump_level = c.greatest_level-backjump_level.result; hints = hints; roots = c.args.roots.items; met = c.args.met.items } in
     let F : LearnedState → Type 0 = λ l. Follows live (map neg_ℤ l.lits) l.hints in
     subst F (sym (c.new_learned.ensures ∙ ap made known.form)) (learned_follows c.args.trail.now c.args.marks.now known.others c.args.place known.first live hints known.resolved c.requires.trail refutes)

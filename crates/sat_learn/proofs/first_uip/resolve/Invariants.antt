@@ -1,4 +1,6 @@
 use Rattle.std.proofs.Common.{◌<◌}
+use Rattle.std.specs.List.{All}
+use Rattle.cnf_base.specs.Dimacs.{IsLiteral}
 use Rattle.sat_learn.specs.Premises.{ResolvesIn}
 use Rattle.sat_learn.specs.Resolving.{IsLastMarked}
 use Rattle.sat_learn.specs.Tracking.{IsTracked}
@@ -11,6 +13,7 @@ invariant-loop-analysis l =
       tracked : IsTracked l.premises.trail l.marks l.analysis.kept.items l.analysis.rooted l.analysis.open_count;
       last : IsLastMarked l.premises.trail l.marks l.at;
       count : 0 < l.analysis.open_count;
+      met : All (IsLiteral l.premises.trail.vars) l.met.items;
       resolves : ResolvesIn l.premises l.initial.marks l.initial.analysis.hints.items l.marks l.analysis.hints.items;
     }
 

@@ -1,5 +1,7 @@
 use Rattle.std.proofs.Common.{◌≡◌, ℕ, ◌≤◌, ◌<◌, ◌^◌, ℤ, Option, List, [], ◌∷◌, ◌++◌, length, ap, sym, ◌∙◌, subst, arith}
+use Rattle.std.specs.List.{All}
 use Rattle.std.proofs.lemmas.List.{length_push}
+use Rattle.cnf_base.specs.Dimacs.{IsLiteral}
 use Rattle.lrat_text.specs.declared.proof.LratStep.{LratStep}
 use Rattle.lrat_text.specs.declared.proof.LratStep.TheVariants.{Add}
 use Rattle.sat_trail.specs.Trail.{TrailState, IsTrail}
@@ -23,6 +25,12 @@ attach-requires-clause-fits c =
     let P : List ℤ → Type 0 = λ ls. CanAttach ls b c.back_to.new.self in
     let Q : TrailState → Type 0 = λ t. CanAttach c.args.learned.lits b t in
     subst P (sym (c.in_ok-lemma.ensures ∙ c.lits.ensures)) (subst Q (sym c.back_to.ensures) (learned_fits b search.premises.trail c.args.learned level (s.book_vars ∙ sym s.trail_vars) c.is_well_formed.ensures c.requires.learned_from.is_learned le))
+
+pub bump-requires-clause-met : goal.bump-requires-clause-met
+bump-requires-clause-met c =
+    let h = c.requires.search in
+    let P : ℕ → Type 0 = λ n. All (IsLiteral n) c.args.learned.met in
+    subst P (h.sound.trail_vars ∙ sym h.queue_vars) c.requires.learned_from.is_learned.met_in_range
 
 pub returns-clause-search : goal.returns-clause-search
 returns-clause-search c =
@@ -53,7 +61,8 @@ returns-clause-search c =
       few_steps = (let size = ap length steps_are in omega (arith, length_push search.steps (Add id learned.lits learned.hints), c.requires.room));
       ledger = subst L (sym steps_are) ledger;
       sound = subst S (sym steps_are) sound;
-      queue_vars = c.bring_to_front.ensures ∙ h.queue_vars;
+      queue_vars = c.bump.ensures.queue ∙ h.queue_vars;
+      ranks_vars = c.bump.ensures.ranks ∙ h.ranks_vars;
       phases_vars = c.note.ensures ∙ h.phases_vars;
       analyzer_vars = h.analyzer_vars;
       considered_vars = h.considered_vars;
@@ -82,8 +91,8 @@ returns-clause-ready c =
 
 pub returns-clause-passed : goal.returns-clause-passed
 returns-clause-passed c =
-    let P : Option ℕ → Type 0 = λ from. IsPassed c.bring_to_front.new.queue c.attach.new.premises.trail.assignments from in
-    subst P (sym c.first-search.ensures) (first_passed c.bring_to_front.new.queue c.attach.new.premises.trail.assignments)
+    let P : Option ℕ → Type 0 = λ from. IsPassed c.bump.new.queue c.attach.new.premises.trail.assignments from in
+    subst P (sym c.first-search.ensures) (first_passed c.bump.new.queue c.attach.new.premises.trail.assignments)
 
 pub returns-clause-roots : goal.returns-clause-roots
 returns-clause-roots c =

@@ -41,6 +41,7 @@ returns-clause-state c formula lemmas t =
         phases_vars = s.phases_vars;
         analyzer_vars = s.analyzer_vars;
         considered_vars = s.considered_vars;
+        ranks_vars = s.ranks_vars;
         few_conflicts = s.few_conflicts;
       };
       ready = subst R (sym c.decide.ensures) (ready_decide search.premises.book search.premises.trail p c.requires.settled c.is_well_formed-2.ensures refl);

@@ -81,6 +81,7 @@ returns-clause-state c =
         phases_vars = s.phases_vars;
         analyzer_vars = s.analyzer_vars;
         considered_vars = s.considered_vars;
+        ranks_vars = s.ranks_vars;
         few_conflicts = omega (arith, s.few_conflicts, size);
       };
       ready = subst R (sym trail_is) (ready_same search.premises.book t (map (with_reason (nat_abs l) (ids.Unit id)) t.assignments) (marks-with_reason (nat_abs l) (ids.Unit id) t.assignments) state.ready);

@@ -27,11 +27,11 @@ pub conclude-requires-clause-search : goal.conclude-requires-clause-search
 conclude-requires-clause-search c =
     let formula = c.args.formula.now in
     let made = c.in_ok-search.search in
-    let s : Search = record { premises = c.load.new.premises; queue = made.queue; from = made.from; phases = made.phases; analyzer = made.analyzer; considered = made.considered; steps = made.steps; conflicts = made.conflicts; restarts = made.restarts } in
+    let s : Search = record { premises = c.load.new.premises; queue = made.queue; ranks = made.ranks; from = made.from; phases = made.phases; analyzer = made.analyzer; considered = made.considered; steps = made.steps; conflicts = made.conflicts; restarts = made.restarts } in
     let e = c.in_ok-search.ensures in
     let h = subst (Loads formula s.premises.proof_ids.items s.premises.book s.premises.trail) c.in-Some.is c.in_ok-refuted.ensures in
     let done = take c.in-Some.index formula.clauses in
-    (done, begun formula done s c.vars.result c.requires.few_clauses c.vars.ensures.value e.steps e.queue e.phases e.analyzer e.considered e.conflicts (loaded_sound formula c.in-Some.index s.premises.proof_ids.items s.premises.book s.premises.trail h.0))
+    (done, begun formula done s c.vars.result c.requires.few_clauses c.vars.ensures.value e.steps e.queue e.ranks e.phases e.analyzer e.considered e.conflicts (loaded_sound formula c.in-Some.index s.premises.proof_ids.items s.premises.book s.premises.trail h.0))
 
 pub conclude-requires-clause-false_now : goal.conclude-requires-clause-false_now
 conclude-requires-clause-false_now c =
@@ -56,7 +56,7 @@ pub take_steps-requires : goal.take_steps-requires
 take_steps-requires c =
     let formula = c.args.formula.now in
     let made = c.in_ok-search.search in
-    let s : Search = record { premises = c.load.new.premises; queue = made.queue; from = made.from; phases = made.phases; analyzer = made.analyzer; considered = made.considered; steps = made.steps; conflicts = made.conflicts; restarts = made.restarts } in
+    let s : Search = record { premises = c.load.new.premises; queue = made.queue; ranks = made.ranks; from = made.from; phases = made.phases; analyzer = made.analyzer; considered = made.considered; steps = made.steps; conflicts = made.conflicts; restarts = made.restarts } in
     let e = c.in_ok-search.ensures in
     let loaded = subst (Loads formula s.premises.proof_ids.items s.premises.book s.premises.trail) c.in_default.is c.in_ok-refuted.ensures in
-    first_turn formula c.args.lemmas s c.vars.result c.requires.few_clauses c.requires.few c.vars.ensures.value e.steps e.queue e.from e.phases e.analyzer e.considered e.conflicts loaded
+    first_turn formula c.args.lemmas s c.vars.result c.requires.few_clauses c.requires.few c.vars.ensures.value e.steps e.queue e.ranks e.from e.phases e.analyzer e.considered e.conflicts loaded

@@ -25,6 +25,7 @@ returns-clause-state c formula lemmas t =
         phases_vars = s.phases_vars;
         analyzer_vars = s.analyzer_vars;
         considered_vars = s.considered_vars;
+        ranks_vars = s.ranks_vars;
         few_conflicts = s.few_conflicts;
       };
       ready = subst R (sym e.book) (ready_after search.premises.book search.premises.trail trail c.requires e.by_units e.marked);
