@@ -13,12 +13,14 @@ use Rattle.sat_solver.specs.Answer.{IsRefutation, IsSpending}
 use Rattle.unroll.specs.declared.start.Start.{Start}
 use Rattle.unroll.specs.Starts.{Allows, IsStart}
 use Rattle.unroll.specs.Frames.{vars_before}
+use Rattle.unroll.specs.Framing.{Framing, IsFraming, Puts}
 use Rattle.unroll.specs.Queries.{search_formula}
 use Rattle.unroll.specs.Laws.{AreNew, frames_of}
 use Rattle.unroll.proofs.ClauseCount.{few_to_search_lem}
 use Rattle.unroll.proofs.RunMeaning.{frame_at, frame_count}
 use Rattle.unroll.proofs.SearchMeaning.{searched_are_new_lem, none_is_new_lem}
 use Rattle.hop_search.specs.Answers.{Asks, IsNewGoal, IsNoMore}
+use Rattle.hop_search.specs.Framed.{Queries}
 use Rattle.hop_search.specs.Laws.{NewReplays, NewIsAt}
 
 -- ---- the query
@@ -35,6 +37,18 @@ asks_of c sig start step settled formula ok are is rising below e few =
       formula_is = e;
       few_vars = few;
       few_clauses = subst (λ (f : CnfFormula). length f.clauses < 2 ^ 60) (sym e) (few_to_search_lem c sig start step settled ok are room rising below);
+    }
+
+pub queries_of : (c : Parts) (sig settled : List ℕ) (old new : Framing) → IsCircuit c → IsSignals c sig → IsStrictlyIncreasing settled
+    → All (λ goal. goal < 2 ^ length sig) settled → IsFraming old → old.circuit ≡ c
+    → Puts old new (search_formula old.circuit sig old.start old.last settled) → Queries c sig settled old new
+queries_of c sig settled old new ok are rising below framing same puts =
+    let is = subst (λ (p : Parts). IsStart p old.start) same framing.start in
+    let e : new.formula ≡ search_formula c sig old.start old.last settled = puts.formula_is ∙ ap (λ (p : Parts). search_formula p sig old.start old.last settled) same in
+    let few : new.formula.vars ≤ 4000000 = omega (arith, puts.frames.framing.vars, puts.frames.framing.few) in
+    record {
+      frames = record { framing = puts.frames.framing; circuit = puts.frames.circuit ∙ same; start_is = puts.frames.start_is; last_is = puts.frames.last_is };
+      asks = asks_of c sig old.start old.last settled new.formula ok are is rising below e few;
     }
 
 -- a model has the values of all steps

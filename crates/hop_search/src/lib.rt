@@ -7,4 +7,4 @@ mod search;
 
 pub use hop::Hop;
 pub use laws::{new_is_at, new_replays};
-pub use search::next_new;
+pub use search::{next_new, next_new_framed};

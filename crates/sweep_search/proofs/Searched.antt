@@ -16,8 +16,11 @@ use Rattle.aig_model.specs.declared.trace.Trace.{Trace}
 use Rattle.aig_model.proofs.OneGoal.{goal_of-lt}
 use Rattle.lrat_text.specs.declared.proof.LratStep.{LratStep}
 use Rattle.sim_walk.proofs.Full.{distinct_below, all_contained}
+use Rattle.unroll.specs.declared.start.Start.{Start}
 use Rattle.unroll.specs.declared.start.Start.TheVariants.{Reset}
-use Rattle.hop_search.specs.Answers.{IsNewGoal, IsNoMore}
+use Rattle.unroll.specs.Framing.{Framing, HasFrames}
+use Rattle.hop_search.specs.declared.hop.Hop.{Hop}
+use Rattle.hop_search.specs.Answers.{IsHop, IsNewGoal, IsNoMore}
 use Rattle.hop_search.proofs.NewGoals.{new_replays_lem}
 use Rattle.sweep_search.specs.Sweep.{IsMarked, IsSettled, AreAllSettled, IsFirstReached, AreNewGoals, goals_of}
 use Rattle.sweep_search.specs.Steps.{IsSearched}
@@ -36,6 +39,17 @@ searched_none c sig known = record {
   whole = λ d goal l w. absurd (omega arith);
   timely = λ all. inl refl;
 }
+
+-- ---- frames from reset
+pub from_reset : (c : Parts) (sig : List ℕ) (step : ℕ) (blocked : List ℕ) (lemmas : ℕ) (f : Framing) (hop : Hop) → HasFrames c Reset step f
+    → IsHop c sig f.start f.last blocked lemmas hop → IsHop c sig Reset step blocked lemmas hop
+from_reset c sig step blocked lemmas f hop frames h =
+    subst (λ (n : ℕ). IsHop c sig Reset n blocked lemmas hop) frames.last_is
+    (subst (λ (start : Start). IsHop c sig start f.last blocked lemmas hop) frames.start_is h)
+
+pub still_framed : (c : Parts) (step : ℕ) (old new : Framing) → HasFrames c Reset step old → HasFrames c old.start old.last new → HasFrames c Reset step new
+still_framed c step old new before after =
+    subst (λ (n : ℕ). HasFrames c Reset n new) before.last_is (subst (λ (start : Start). HasFrames c start old.last new) before.start_is after)
 
 -- ---- goals are below their number
 pub reached_below : (c : Parts) (sig : List ℕ) (f : FoundGoal) → IsFirstReached c sig f → f.goal < 2 ^ length sig

@@ -2,9 +2,11 @@
 #![tactic(auto)]
 
 mod blocked;
+mod frames;
 mod search;
 mod steps;
 mod swept;
 
+pub use blocked::settled_goals;
 pub use steps::sweep;
 pub use swept::{FoundGoal, FoundGoals, SpentQuery, Swept};

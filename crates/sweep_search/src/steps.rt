@@ -4,6 +4,7 @@ ghost use Rattle.std.specs.Prelude.{◌≡◌, ◌≤◌, ◌+◌, ◌^◌, leng
 ghost use Rattle.unroll.specs.Frames.{vars_before};
 ghost use Rattle.sweep_search.specs.Sweep.{IsSweep, steps_up_to};
 
+use crate::frames::{first_frame, next_frame};
 use crate::search::{StepEnd, search_step};
 use crate::swept::{FoundGoals, SpentQuery, Swept};
 use aig_model::{Bits, Circuit, Signals};
@@ -40,10 +41,20 @@ pub fn sweep(
     requires few { lemmas ≤ 2 ^ 60 }
     ensures { IfOk result (IsSweep circuit.now signals.now.lits known.now depth lemmas) }
 {
+    let mut framed = first_frame(alloc, circuit)?;
     let mut found = FoundGoals::new(alloc);
     for step in 0..depth + 1 {
-        match search_step(alloc, circuit, signals, known, step, lemmas, &mut found)? {
-            StepEnd::Whole => {}
+        match search_step(
+            alloc,
+            circuit,
+            signals,
+            known,
+            &mut framed,
+            step,
+            lemmas,
+            &mut found,
+        )? {
+            StepEnd::Whole => next_frame(alloc, circuit, &mut framed, step, depth)?,
             StepEnd::AllSettled => return Ok(swept(found, step, None)),
             StepEnd::Spent(query) => return Ok(swept(found, step, Some(query))),
         }

@@ -1,6 +1,7 @@
 pub mod CertMeaning
 pub mod ClauseCount
 pub mod FrameMeaning
+pub mod Framing
 pub mod GoalMeaning
 pub mod Growth
 pub mod Room

@@ -4,7 +4,7 @@ ghost use Rattle.std.specs.Prelude.{◌≡◌, ◌≤◌, ◌<◌, ◌+◌, ◌^
 ghost use Rattle.aig_model.specs.WellFormed.{latch_lits, next_lits};
 ghost use Rattle.aig_model.specs.LatchClauses.{IsLatchClause, NamesLatch};
 ghost use Rattle.unroll.specs.Frames.{unit_clauses};
-ghost use Rattle.unroll.specs.Queries.{excludes_formula, held_clauses, kept_formula, latch_clause, latch_lit};
+ghost use Rattle.unroll.specs.Queries.{excludes_formula, goal_lits, kept_formula, latch_clause, latch_lit};
 ghost use Rattle.unroll.specs.Building.{HasLit, NamesItem, with_clauses};
 
 use crate::clauses::add;
@@ -95,21 +95,63 @@ fn next_lits(alloc: Global, circuit: &Circuit) -> Result<Vec<Lit>, OutOfMemory>
     Ok(lits)
 }
 
-/// Steps from a state in which the clauses hold.
-fn held_formula(
+/// Behind the frames of one step: the clauses hold before it.
+pub(crate) fn add_held(
     alloc: Global,
+    formula: &mut Formula,
     circuit: &Circuit,
     clauses: &LatchClauses,
-) -> Result<Formula, OutOfMemory>
-    requires { All (IsLatchClause circuit.now) clauses.now }
-    ensures vars { IfOk result (λ formula. formula.vars ≡ circuit.now.top + 1) }
-    ensures clauses { IfOk result (λ formula. formula.clauses ≡ held_clauses circuit.now clauses.now) }
+) -> Result<(), OutOfMemory>
+    requires few { formula.old.vars ≤ 4000000 }
+    requires room { circuit.now.top + 1 ≤ formula.old.vars }
+    requires clauses { All (IsLatchClause circuit.now) clauses.now }
+    ensures { OnOk result (formula.new ≡ with_clauses formula.old (map (latch_clause (latch_lits circuit.now.latches)) clauses.now)) }
 {
     circuit.is_well_formed();
-    let mut formula = frames_formula(alloc, circuit, &Start::Any, 0)?;
     let lits = latch_lits(alloc, circuit)?;
-    add_latch_clauses(alloc, &mut formula, &lits, clauses.as_slice())?;
-    Ok(formula)
+    add_latch_clauses(alloc, formula, &lits, clauses.as_slice())?;
+    Ok(())
+}
+
+/// Behind them: the clause at the place is false after the step.
+pub(crate) fn add_broken(
+    alloc: Global,
+    formula: &mut Formula,
+    circuit: &Circuit,
+    clauses: &LatchClauses,
+    place: u32,
+) -> Result<(), OutOfMemory>
+    requires few { formula.old.vars ≤ 4000000 }
+    requires room { circuit.now.top + 1 ≤ formula.old.vars }
+    requires clauses { All (IsLatchClause circuit.now) clauses.now }
+    requires place { place < length clauses.now }
+    ensures { OnOk result (formula.new ≡ with_clauses formula.old (unit_clauses (map neg_ℤ (latch_clause (next_lits circuit.now.latches) (get_or clauses.now place []))))) }
+{
+    circuit.is_well_formed();
+    let lits = next_lits(alloc, circuit)?;
+    let clause = clauses.get(place as usize).as_slice();
+    let after = latch_clause(alloc, &lits, clause)?;
+    add_false_units(alloc, formula, &after)?;
+    Ok(())
+}
+
+/// Behind them: the step shows the goal.
+pub(crate) fn add_shown(
+    alloc: Global,
+    formula: &mut Formula,
+    circuit: &Circuit,
+    signals: &Signals,
+    goal: u32,
+) -> Result<(), OutOfMemory>
+    requires few { formula.old.vars ≤ 4000000 }
+    requires room { circuit.now.top + 1 ≤ formula.old.vars }
+    requires signals { signals.now.circuit ≡ circuit.now }
+    ensures { OnOk result (formula.new ≡ with_clauses formula.old (unit_clauses (goal_lits 0 signals.now.lits goal))) }
+{
+    circuit.is_well_formed();
+    let shown = goal_lits(alloc, 0, signals.lits().as_slice(), goal)?;
+    add_units(alloc, formula, &shown)?;
+    Ok(())
 }
 
 /// Values satisfy the formula exactly where the clauses hold before the step, and the clause at this place is
@@ -125,11 +167,9 @@ pub fn kept_formula(
     ensures { IfOk result (λ formula. formula ≡ kept_formula circuit.now clauses.now place) }
 {
     circuit.is_well_formed();
-    let mut formula = held_formula(alloc, circuit, clauses)?;
-    let lits = next_lits(alloc, circuit)?;
-    let clause = clauses.get(place as usize).as_slice();
-    let after = latch_clause(alloc, &lits, clause)?;
-    add_false_units(alloc, &mut formula, &after)?;
+    let mut formula = frames_formula(alloc, circuit, &Start::Any, 0)?;
+    add_held(alloc, &mut formula, circuit, clauses)?;
+    add_broken(alloc, &mut formula, circuit, clauses, place)?;
     Ok(formula)
 }
 
@@ -147,8 +187,8 @@ pub fn excludes_formula(
     ensures { IfOk result (λ formula. formula ≡ excludes_formula circuit.now signals.now.lits clauses.now goal) }
 {
     circuit.is_well_formed();
-    let mut formula = held_formula(alloc, circuit, clauses)?;
-    let shown = goal_lits(alloc, 0, signals.lits().as_slice(), goal)?;
-    add_units(alloc, &mut formula, &shown)?;
+    let mut formula = frames_formula(alloc, circuit, &Start::Any, 0)?;
+    add_held(alloc, &mut formula, circuit, clauses)?;
+    add_shown(alloc, &mut formula, circuit, signals, goal)?;
     Ok(formula)
 }

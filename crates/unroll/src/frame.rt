@@ -14,7 +14,7 @@ use cnf_base::Formula;
 use ketch_base::OutOfMemory;
 use std::alloc::Global;
 
-fn add_frame(
+pub(crate) fn add_frame(
     alloc: Global,
     formula: &mut Formula,
     circuit: &Circuit,
@@ -41,6 +41,25 @@ pub(crate) fn are_too_large(circuit: &Circuit, last: u32) -> bool
 }
 
 /// The steps 0 to `last`.
+pub(crate) fn all_frames(
+    alloc: Global,
+    circuit: &Circuit,
+    start: &Start,
+    undefined: &[u32],
+    last: u32,
+) -> Result<Formula, OutOfMemory>
+    requires few { vars_before circuit.now (last + 1) ≤ 4000000 }
+    requires start { IsStart circuit.now start.now }
+    requires undefined { undefined.now ≡ undefined_vars circuit.now }
+    ensures { IfOk result (λ formula. formula ≡ frames_formula circuit.now start.now last) }
+{
+    let mut formula = Formula::new(alloc, (last + 1) * (circuit.top() + 1));
+    for step in 0..last + 1 {
+        add_frame(alloc, &mut formula, circuit, start, undefined, step)?;
+    }
+    Ok(formula)
+}
+
 pub(crate) fn frames_formula(
     alloc: Global,
     circuit: &Circuit,
@@ -52,9 +71,6 @@ pub(crate) fn frames_formula(
     ensures { IfOk result (λ formula. formula ≡ frames_formula circuit.now start.now last) }
 {
     let undefined = undefined_vars(alloc, circuit)?;
-    let mut formula = Formula::new(alloc, (last + 1) * (circuit.top() + 1));
-    for step in 0..last + 1 {
-        add_frame(alloc, &mut formula, circuit, start, &undefined, step)?;
-    }
+    let formula = all_frames(alloc, circuit, start, &undefined, last)?;
     Ok(formula)
 }

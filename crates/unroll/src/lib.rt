@@ -6,6 +6,7 @@ mod clauses;
 mod entry;
 mod fault;
 mod frame;
+mod framed;
 mod goal;
 mod laws;
 mod lits;
@@ -18,6 +19,7 @@ mod unrolled;
 
 pub use cert::{excludes_formula, kept_formula};
 pub use fault::FrameFault;
+pub use framed::FramedFormula;
 pub use laws::{
     excluded_is_refuted, few_clauses, frames_are_runs, kept_is_refuted, searched_are_new,
 };

@@ -35,7 +35,7 @@ fn blocking_clause(
     Ok(clause)
 }
 
-fn block(
+pub(crate) fn block(
     alloc: Global,
     formula: &mut Formula,
     before: u32,

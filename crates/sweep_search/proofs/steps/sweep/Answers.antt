@@ -6,6 +6,9 @@ use Rattle.sweep_search.specs.declared.swept.FoundGoal.{FoundGoal}
 use Rattle.sweep_search.proofs.Endings.{sweep_to_depth, sweep_to_all, sweep_to_spent, shallow_of}
 use Rattle.sweep_search.proofs.steps.sweep.Goals as goal
 
+pub search_step-requires-clause-frames : goal.search_step-requires-clause-frames
+search_step-requires-clause-frames c = c.loop-step.invariant.frames (omega arith)
+
 pub returns-in-AllSettled : goal.returns-in-AllSettled
 returns-in-AllSettled c =
     let circuit = c.args.circuit.now in
@@ -14,7 +17,7 @@ returns-in-AllSettled c =
     let step = c.loop-step.step in
     let now = c.search_step.new.found in
     let P : StepEnd → Type 0 = λ e. IsStepEnd circuit sig known step c.args.lemmas now e in
-    let end = subst P c.in-AllSettled.is c.in_ok-search_step.ensures in
+    let end = subst P c.in-AllSettled.is c.in_ok-search_step.ensures.end in
     let inside : step ≤ c.args.depth = omega arith in
     let at = sym c.swept.ensures.found in
     sweep_to_all circuit sig known c.args.depth c.args.lemmas step c.swept.result c.swept.ensures.upto c.swept.ensures.spent inside
@@ -30,7 +33,7 @@ returns-in-Spent c =
     let step = c.loop-step.step in
     let now = c.search_step.new.found in
     let P : StepEnd → Type 0 = λ e. IsStepEnd circuit sig known step c.args.lemmas now e in
-    let end = subst P c.in-Spent.is c.in_ok-search_step.ensures in
+    let end = subst P c.in-Spent.is c.in_ok-search_step.ensures.end in
     let inside : step ≤ c.args.depth = omega arith in
     let ends = c.swept-in-Spent.ensures in
     let at = sym ends.found in

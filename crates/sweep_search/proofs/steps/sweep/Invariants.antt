@@ -1,4 +1,6 @@
 use Rattle.std.proofs.Common.{◌<◌, ◌≤◌, All}
+use Rattle.unroll.specs.Framing.{HasFrames}
+use Rattle.unroll.specs.declared.start.Start.TheVariants.{Reset}
 use Rattle.sweep_search.specs.Sweep.{AreAllSettled}
 use Rattle.sweep_search.specs.Steps.{IsSearched}
 use Rattle.sweep_search.specs.declared.swept.FoundGoal.{FoundGoal}
@@ -9,4 +11,5 @@ invariant-loop-step l = record {
   searched : IsSearched l.circuit l.signals.lits l.known l.step l.found;
   left : 0 < l.step → ¬ AreAllSettled l.signals.lits l.known l.found;
   shallow : All (λ (f : FoundGoal). f.step ≤ l.depth) l.found;
+  frames : l.step ≤ l.depth → HasFrames l.circuit Reset l.step l.framed;
 }

@@ -1,5 +1,4 @@
 use Rattle.std.proofs.Common.{true, set, ap, ◌∙◌, arith}
-use Rattle.aig_model.specs.Literal.{var}
 use Rattle.unroll.proofs.UndefinedVars.{marks_step}
 use Rattle.unroll.proofs.undefined.mark_lits.Goals as goal
 

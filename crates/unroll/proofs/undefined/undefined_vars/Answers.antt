@@ -1,4 +1,4 @@
-use Rattle.std.proofs.Common.{◌+◌, ◌-◌, ℕ, true, false, sym, ap, ◌∙◌, Vec, Global}
+use Rattle.std.proofs.Common.{ℕ, sym, ap, ◌∙◌, Vec, Global}
 use Rattle.unroll.proofs.UndefinedVars.{undefined_kept, defined_passed}
 use Rattle.unroll.proofs.undefined.undefined_vars.Goals as goal
 use Rattle.unroll.proofs.undefined.undefined_vars.Goals.{then-not-get+in_ok-push, else-not-get}

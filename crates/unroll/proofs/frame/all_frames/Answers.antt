@@ -1,7 +1,7 @@
 use Rattle.std.specs.List.{flat_map, range_with_len}
 use Rattle.unroll.specs.Frames.{frame_clauses}
 use Rattle.unroll.proofs.Growth.{grows, steps_more}
-use Rattle.unroll.proofs.frame.frames_formula.Goals as goal
+use Rattle.unroll.proofs.frame.all_frames.Goals as goal
 
 pub loop-step-preserved : goal.loop-step-preserved
 loop-step-preserved c =
