@@ -139,14 +139,6 @@ last_visit c sig seed batch from steps walks b t d within are last =
       last = λ s other v. omega (arith, (visited_goal c sig lanes steps walks d b s other are v).0, last);
     }
 
-pub shows_some : (c : Parts) (sig : List ℕ) (seed batch : ℕ) (from : Option SeedState) (steps b t : ℕ) (trace : Trace) → AreSeeds from → BelongsTo c from
-    → IsLaneTrace c from (lanes_of c seed batch from) b t trace → IsLastVisit c sig (lanes_of c seed batch from) steps b t → ShowsSome c trace
-shows_some c sig seed batch from steps b t trace holds same of last = record {
-  signals = sig;
-  goal = last.goal;
-  shows = shows_visit c sig seed batch from steps b t last.goal trace holds same of last.visited;
-}
-
 pub take_pushed : (xs : List (List Bool)) (x : List Bool) → take (length (xs ++ x ∷ []) - 1) (xs ++ x ∷ []) ≡ xs
 take_pushed xs x = let count : length (xs ++ x ∷ []) - 1 ≡ length xs = omega (arith, length-append xs (x ∷ [])) in ap (λ n. take n (xs ++ x ∷ [])) count ∙ take-append_seam xs (x ∷ [])
 

@@ -3,9 +3,11 @@ pub mod BestSeed
 pub mod Drawn
 pub mod EachLane
 pub mod LaneGoals
+pub mod LaneWays
 pub mod Lanes
 pub mod Overs
 pub mod Seeded
+pub mod Sent
 pub mod Shown
 pub mod SoFar
 pub mod Stepping

@@ -5,4 +5,5 @@ pub mod SeedOf
 pub mod Seeds
 pub mod Steps
 pub mod Walked
+pub mod Ways
 pub mod Words

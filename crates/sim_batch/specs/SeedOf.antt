@@ -26,19 +26,30 @@ pub record IsLastVisit (c : Parts) (sig : List ℕ) (lanes : List Lane) (steps j
   pub visited : IsVisited c sig lanes steps j t goal
   pub last : (s other : ℕ) → IsVisited c sig lanes steps j s other → s ≤ t
 
--- The seed is where the best lane is at its last visited step: its rows are a seed's to the lane's start, and then the lane's before
--- that step. (What a seed is says that they lead to its state.)
-pub record IsSeedOf (c : Parts) (sig : List ℕ) (from : Option SeedState) (lanes : List Lane) (steps : ℕ) (seed : SeedState) : Type 0 where
-  pub j : ℕ
-  pub best : IsBestLane c sig lanes steps j
-  pub t : ℕ
-  pub last : IsLastVisit c sig lanes steps j t
+-- lane j visits a goal of some signals at step t
+pub record VisitsSome (c : Parts) (lanes : List Lane) (j t : ℕ) : Type 0 where
+  pub signals : List ℕ
+  pub steps : ℕ
+  pub goal : ℕ
+  pub visited : IsVisited c signals lanes steps j t goal
+
+-- The seed is where lane j is at step t: its rows are a seed's to the lane's start, and then the lane's before that step. (What a
+-- seed is says that they lead to its state.)
+pub record IsSeedAt (c : Parts) (from : Option SeedState) (lanes : List Lane) (j t : ℕ) (seed : SeedState) : Type 0 where
   pub lane : Lane
   pub place : slice_get lanes j ≡ Some lane
   pub circuit : seed.circuit ≡ c
   pub start : seed.start ≡ first_start from lane.start
   pub rows : seed.rows.rows ≡ first_rows from ++ lane_rows lane t
   pub holds : IsSeed seed.circuit seed.start seed.rows seed.state
+
+-- the seed is where the best lane is at its last visited step
+pub record IsSeedOf (c : Parts) (sig : List ℕ) (from : Option SeedState) (lanes : List Lane) (steps : ℕ) (seed : SeedState) : Type 0 where
+  pub j : ℕ
+  pub best : IsBestLane c sig lanes steps j
+  pub t : ℕ
+  pub last : IsLastVisit c sig lanes steps j t
+  pub seed_at : IsSeedAt c from lanes j t seed
 
 -- no lane visits a step
 abbrev pub NoneVisits : Parts → List ℕ → List Lane → ℕ → Type 0

@@ -6,9 +6,9 @@ ghost use Rattle.sim_batch.specs.Best.{IsBest};
 ghost use Rattle.sim_batch.specs.SeedOf.{IsBatch, IsBatchSeed};
 ghost use Rattle.sim_batch.specs.Steps.{AreWalks, HaveWalked, goal_count};
 
-use crate::lane::lane_trace;
 use crate::lane_walk::LaneWalk;
-use crate::seed::{Seed, are_seeds};
+use crate::seed::Seed;
+use crate::traces::lane_seed;
 use crate::walked::walk;
 use aig_model::{Circuit, Signals};
 use ketch_base::OutOfMemory;
@@ -60,15 +60,12 @@ fn batch_seed(
         → IfOk result (IsBatchSeed circuit.now signals.now.lits (option_copied from.entry)
         (lanes_of circuit.now options.now.seed batch (option_copied from.entry)) steps) }
 {
-    are_seeds(from);
     let best = best_lane(lanes);
     let lived = lanes[best].lived;
     if lived == 0 {
         return Ok(None);
     }
-    let trace = lane_trace(alloc, circuit, options, from, batch, best as u32, lived - 1)?;
-    let seed = Seed::from_reached(alloc, circuit, &trace)?;
-    seed.is_well_formed();
+    let seed = lane_seed(alloc, circuit, options, from, batch, best as u32, lived - 1)?;
     Ok(Some(seed))
 }
 

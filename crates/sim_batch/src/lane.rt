@@ -25,7 +25,7 @@ fn start_bits(circuit: &Circuit, from: Option<&Seed>) -> usize
 }
 
 /// The words that the start of the lanes takes.
-pub(crate) fn start_words(
+pub fn start_words(
     alloc: Global,
     circuit: &Circuit,
     from: Option<&Seed>,
@@ -63,7 +63,7 @@ pub(crate) fn lane_start(
 }
 
 /// The rows that a lane is given at the next `count` steps.
-fn lane_rows(
+pub(crate) fn lane_rows(
     alloc: Global,
     circuit: &Circuit,
     generator: &mut Xoshiro256PlusPlus,

@@ -3,12 +3,11 @@
 ghost use Rattle.std.specs.Prelude.{◌≡◌, ◌<◌, ◌+◌, ◌^◌, length, OnOk, IfOk};
 ghost use Rattle.sim_batch.specs.Steps.{Advances, IsReady, Notes, WalksOn};
 
-use crate::first_visits::FirstVisits;
 use crate::words::lane_row;
 use aig_eval::{goal_of, is_legal, next_state, step_values};
 use aig_model::{Bits, Circuit, Signals};
 use ketch_base::OutOfMemory;
-use sim_walk::Visit;
+use sim_walk::{FirstVisits, Visit};
 use std::alloc::Global;
 
 /// A lane after some steps: how many of them it lived, where these led, and what it visited.

@@ -3,7 +3,6 @@
 
 mod batch;
 mod copies;
-mod first_visits;
 mod lane;
 mod lane_walk;
 mod over;
@@ -11,8 +10,12 @@ mod rounds;
 mod seed;
 mod traces;
 mod walked;
+mod ways;
 mod words;
 
 pub use batch::{BatchEnd, walk_batch};
-pub use seed::Seed;
-pub use traces::visit_trace;
+pub use lane::start_words;
+pub use seed::{Seed, are_seeds};
+pub use traces::{lane_seed, visit_trace};
+pub use ways::seed_after;
+pub use words::{batch_generator, draw, lane_bit, lane_row};

@@ -4,13 +4,12 @@ ghost use Rattle.std.specs.Prelude.{◌≡◌, ◌^◌, length, map, option_copi
 ghost use Rattle.std.specs.List.{range_with_len};
 ghost use Rattle.sim_batch.specs.Steps.{IsReady, StepsOn, first_walk};
 
-use crate::first_visits::FirstVisits;
 use crate::lane::lane_start;
 use crate::lane_walk::{LaneWalk, step_lane};
 use crate::seed::Seed;
 use aig_model::{Circuit, Signals};
 use ketch_base::OutOfMemory;
-use sim_walk::Visit;
+use sim_walk::{FirstVisits, Visit};
 use std::alloc::Global;
 
 /// The 64 lanes before their first step; the words are those that the start takes.

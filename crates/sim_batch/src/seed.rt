@@ -55,6 +55,22 @@ impl Seed {
         })
     }
 
+    /// The seed of a way to a state.
+    pub(crate) fn of_way(circuit: &Circuit, way: Trace, state: Bits) -> Seed
+        requires { IsSeed circuit.now way.start way.rows state }
+        ensures circuit { result.circuit ≡ circuit.now }
+        ensures start { result.start ≡ way.start }
+        ensures rows { result.rows ≡ way.rows }
+        ensures state { result.state ≡ state }
+    {
+        Seed {
+            start: way.start,
+            rows: way.rows,
+            state,
+            circuit: Snapshot::of(circuit),
+        }
+    }
+
     /// Says that the rows lead from the start, a reset state, to the state.
     pub fn is_well_formed(&self)
         ensures { IsSeed self.now.circuit self.now.start self.now.rows self.now.state }
@@ -113,7 +129,7 @@ impl Seed {
 }
 
 /// Says what the type of a seed keeps.
-pub(crate) fn are_seeds(from: Option<&Seed>)
+pub fn are_seeds(from: Option<&Seed>)
     ensures { AreSeeds (option_copied from.entry) }
 {
     if let Some(seed) = from {

@@ -1,9 +1,9 @@
-//! The trace that leads a lane to what it visits.
+//! The trace that leads a lane to what it visits, and the seed that it makes there.
 
 ghost use Rattle.std.specs.Prelude.{◌≡◌, option_copied, IfOk};
 ghost use Rattle.aig_model.specs.Replays.{Shows};
 ghost use Rattle.sim_batch.specs.Batch.{BelongsTo, IsLaneTrace, lanes_of};
-ghost use Rattle.sim_batch.specs.SeedOf.{IsBatchVisit};
+ghost use Rattle.sim_batch.specs.SeedOf.{IsBatchVisit, IsSeedAt, VisitsSome};
 
 use crate::lane::lane_trace;
 use crate::seed::{Seed, are_seeds};
@@ -33,4 +33,26 @@ pub fn visit_trace(
     are_seeds(from);
     let trace = lane_trace(alloc, circuit, options, from, batch, visit.lane, visit.step)?;
     Ok(trace)
+}
+
+/// The seed that is made where a lane visits a step.
+pub fn lane_seed(
+    alloc: Global,
+    circuit: &Circuit,
+    options: &Options,
+    from: Option<&Seed>,
+    batch: u32,
+    lane: u32,
+    step: u32,
+) -> Result<Seed, OutOfMemory>
+    requires seed { BelongsTo circuit.now (option_copied from) }
+    requires visit { VisitsSome circuit.now (lanes_of circuit.now options.now.seed batch (option_copied from)) lane step }
+    ensures { IfOk result (IsSeedAt circuit.now (option_copied from.entry) (lanes_of circuit.now options.now.seed batch (option_copied from.entry))
+        lane step) }
+{
+    are_seeds(from);
+    let trace = lane_trace(alloc, circuit, options, from, batch, lane, step)?;
+    let seed = Seed::from_reached(alloc, circuit, &trace)?;
+    seed.is_well_formed();
+    Ok(seed)
 }

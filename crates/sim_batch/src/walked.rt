@@ -4,7 +4,6 @@ ghost use Rattle.std.specs.Prelude.{◌≡◌, ◌<◌, option_copied, IfOk};
 ghost use Rattle.sim_batch.specs.Batch.{BelongsTo, lanes_of};
 ghost use Rattle.sim_batch.specs.Walked.{IsWalked};
 
-use crate::first_visits::FirstVisits;
 use crate::lane::start_words;
 use crate::lane_walk::LaneWalk;
 use crate::over::is_over;
@@ -13,7 +12,7 @@ use crate::seed::{Seed, are_seeds};
 use crate::words::{batch_generator, draw};
 use aig_model::{Circuit, Signals};
 use ketch_base::OutOfMemory;
-use sim_walk::Options;
+use sim_walk::{FirstVisits, Options};
 use std::alloc::Global;
 
 /// The lanes of a batch after its last step, and what they visited.

@@ -12,14 +12,14 @@ use rand_core::utils::NextWord;
 use rand_xoshiro::Xoshiro256PlusPlus;
 use std::alloc::Global;
 
-pub(crate) fn batch_generator(seed: u64, batch: u32) -> Xoshiro256PlusPlus
+pub fn batch_generator(seed: u64, batch: u32) -> Xoshiro256PlusPlus
     ensures { result ≡ batch_generator seed batch }
 {
     Xoshiro256PlusPlus::seed_from_u64(seed.wrapping_add(batch as u64))
 }
 
 /// Writes the generator's next words over all of `words`.
-pub(crate) fn draw(generator: &mut Xoshiro256PlusPlus, words: &mut Vec<u64>)
+pub fn draw(generator: &mut Xoshiro256PlusPlus, words: &mut Vec<u64>)
     ensures words { words.new.items ≡ map (word_at generator.old) (range_with_len 0 (length words.old.items)) }
     ensures generator { generator.new ≡ after_words generator.old (length words.old.items) }
 {
@@ -28,7 +28,8 @@ pub(crate) fn draw(generator: &mut Xoshiro256PlusPlus, words: &mut Vec<u64>)
     }
 }
 
-fn lane_bit(word: u64, lane: u32) -> bool
+/// A lane's bit of a word.
+pub fn lane_bit(word: u64, lane: u32) -> bool
     requires { lane < 64 }
     ensures { result ≡ bit_of_word lane word }
 {
@@ -48,7 +49,7 @@ fn lane_bit_of(words: &[u64], place: usize, lane: u32) -> bool
 }
 
 /// A lane's bits of these words.
-pub(crate) fn lane_row(alloc: Global, words: &[u64], lane: u32) -> Result<Bits, OutOfMemory>
+pub fn lane_row(alloc: Global, words: &[u64], lane: u32) -> Result<Bits, OutOfMemory>
     requires { lane < 64 }
     ensures { IfOk result (λ row. row ≡ map (bit_of_word lane) words.now) }
 {

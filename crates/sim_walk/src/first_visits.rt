@@ -63,6 +63,12 @@ impl FirstVisits {
         self.visits.len() == self.seen.len()
     }
 
+    pub fn visits(&self) -> &Visits
+        ensures { result.now ≡ self.now.visits }
+    {
+        &self.visits
+    }
+
     pub fn into_visits(self) -> Visits
         ensures { result ≡ self.visits }
     {

@@ -6,6 +6,7 @@ mod options;
 mod visit;
 mod walk;
 
+pub use first_visits::FirstVisits;
 pub use options::Options;
 pub use visit::{Visit, Visits};
 pub use walk::{zero_trace, zero_walk};

@@ -1,0 +1,10 @@
+pub mod Deciding
+pub mod WordBits
+pub mod LaneSteps
+pub mod GoalDigits
+pub mod Marks
+pub mod MaskLanes
+pub mod OneStep
+pub mod Overs
+pub mod Starts
+pub mod Walks

@@ -1,0 +1,2 @@
+pub mod LaneValues
+pub mod Lanes
