@@ -4,4 +4,7 @@ pub mod Steps
 pub mod Seats
 pub mod Posts
 pub mod NewPasses
+pub mod Numbers
+pub mod LastSeat
+pub mod Taken
 pub mod Sent

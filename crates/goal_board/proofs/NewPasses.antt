@@ -37,8 +37,8 @@ range_snoc f a (suc n) m e = ap (λ l. f a ∷ l) (range_snoc f (a + 1) n m (ome
 pub range_front : {X : Type 0} (f : ℕ → X) (n m : ℕ) → m ≡ n + 1 → f 0 ∷ map f (range_with_len 1 n) ≡ map f (range_with_len 0 m)
 range_front f n m e = ap (λ k. map f (range_with_len 0 k)) (let h : suc n ≡ m = omega arith in h)
 
-pub all_of : (board : BoardState) (s : PassesState) → s.passes ≡ map (new_pass board) (range_with_len 0 board.terms.callers) → s.room ≡ board.terms.callers → AreAllOf board s
-all_of board s e room =
+pub all_of : (board : BoardState) (s : PassesState) → s.passes ≡ map (new_pass board) (range_with_len 0 board.terms.callers) → s.room ≡ board.terms.callers → s.goals ≡ board.terms.goals → AreAllOf board s
+all_of board s e room goals =
     let n : ℕ = board.terms.callers in
     let long : length s.passes ≡ n = ap length e ∙ length-map-range_with_len (new_pass board) 0 n in
     let at : (k : ℕ) (d : PassState) → k < length s.passes → get_or s.passes k d ≡ new_pass board k
@@ -51,4 +51,5 @@ all_of board s e room =
           let b = ap (λ (p : PassState). p.caller) (at j d far) in
           omega (arith, lt, sym a ∙ same ∙ b);
       room = room;
+      goals = goals;
     }

@@ -20,7 +20,7 @@ use Rattle.goal_board.specs.Passes.{front_after}
 use Rattle.goal_board.specs.Inside.{IsPass, IsEvidenced}
 
 -- ---- flags
-trues_le : (bs : List Bool) → trues bs ≤ length bs
+pub trues_le : (bs : List Bool) → trues bs ≤ length bs
 trues_le [] = omega arith
 trues_le (true ∷ bs) = omega (arith, trues_le bs)
 trues_le (false ∷ bs) = omega (arith, trues_le bs)

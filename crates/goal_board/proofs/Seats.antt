@@ -10,6 +10,7 @@ use native.Mathlib.Decide.{ℕ_discrete}
 use lib.ListN.{get_elem?}
 use Rattle.atomic_table.specs.Table.{Splits, Joins}
 use Rattle.atomic_table.proofs.Lists.{at_set, at_longer, at_last, set_here, set_else}
+use Rattle.board_core.specs.declared.event.Event.TheVariants as event_kinds
 use Rattle.board_core.specs.declared.view.View.{View as Known}
 use Rattle.board_core.specs.Core as core
 use Rattle.board_core.specs.Core.{Core, HasView, CanSplit, CanJoin, fresh_view, with_all, initial_core, word_of}
@@ -21,7 +22,7 @@ use Rattle.goal_board.specs.declared.view.Terms.{Terms}
 use Rattle.goal_board.specs.Lists.{total}
 use Rattle.goal_board.specs.Rule.{IsFound, Fits, Apart, HasSeat, Kept, first, rest_of, new_caller, joined, spent}
 use Rattle.goal_board.proofs.Sums.{at_below, at_push, get-replicate, length-replicate, total-append, total-set}
-use Rattle.goal_board.proofs.Steps.{Holds, set_each, set_apart, seat_set}
+use Rattle.goal_board.proofs.Steps.{Holds, led_more, set_each, set_apart, seat_set}
 
 -- ---- a caller is made
 kept_split : (t : Terms) (ws : List ℕ) (vs : List View) (id : ℕ) (v : View) → Kept t ws vs → get_elem? vs id ≡ some v → 1 < v.parts → v.caller ≡ 0 → v.made < 8 → v.share ≤ v.left
@@ -46,6 +47,8 @@ kept_split t ws vs id v k me parts caller few share =
     (λ l. slice_get_within c.views v.caller (Some v.known) mine) in
     record {
       core = d;
+      events = k.events ++ event_kinds.Split v.caller ∷ [];
+      led = led_more k.events (initial_core 1 t.goals) c (event_kinds.Split v.caller) d k.led (record { can = can; after = refl });
       sound = split-sound c v.caller can k.sound;
       found = k.found;
       wide = k.wide;
@@ -120,6 +123,8 @@ kept_join t ws vs id v other u k me live lives later idle ne them =
     let both : (h : View → ℕ) → total h (set now other spent) + h u + h v ≡ total h vs + h w + h spent = λ h. omega (arith, total-set h vs id v w me, total-set h now other u spent them) in
     record {
       core = d;
+      events = k.events ++ event_kinds.Join u.caller v.caller ∷ [];
+      led = led_more k.events (initial_core 1 t.goals) c (event_kinds.Join u.caller v.caller) d k.led (record { can = can; after = refl });
       sound = join-sound c u.caller v.caller can k.sound;
       found = k.found;
       wide = k.wide;
@@ -172,6 +177,8 @@ opens t ws is some_callers few goals =
     let c : Core = initial_core 1 t.goals in
     record {
       core = c;
+      events = [];
+      led = refl;
       sound = initial-sound 1 t.goals (omega arith);
       found = All-nil (IsFound t);
       wide = ap length is ∙ length-replicate 0 (t.goals + 1);

@@ -13,12 +13,14 @@ use Rattle.atomic_table.specs.Table.{State, step, keeps, Allows}
 use Rattle.atomic_table.proofs.Lists.{at_set, set_here, set_else, exchanged}
 use Rattle.board_core.specs.declared.entry.Entry.{Entry}
 use Rattle.board_core.specs.declared.entry.Source.{Source}
+use Rattle.board_core.specs.declared.event.Event.{Event}
+use Rattle.board_core.specs.declared.event.Event.TheVariants as event_kinds
 use Rattle.board_core.specs.declared.view.GoalMark.{GoalMark}
 use Rattle.board_core.specs.declared.view.View.{View as Known}
 use Rattle.board_core.specs.History.{kind_of}
 use Rattle.board_core.specs.Core as core
-use Rattle.board_core.specs.Core.{Core, core_of, HasView, CanNumber, CanMark, CanLook, mark_of, word_of, mark_by, first_mark}
-use Rattle.board_core.specs.Good.{IsEntry, IsSound}
+use Rattle.board_core.specs.Core.{Core, core_of, HasView, CanNumber, CanMark, CanLook, IsStep, initial_core, mark_of, word_of, mark_by, first_mark}
+use Rattle.board_core.specs.Good.{IsEntry, IsSound, Leads}
 use Rattle.board_core.proofs.Places.{get-set_same, get-set_other}
 use Rattle.board_core.proofs.KeptNumber.{number-sound}
 use Rattle.board_core.proofs.KeptMark.{mark-sound}
@@ -70,13 +72,19 @@ live_before c k j old new now live at = dite (ℕ_discrete j k)
     (λ e. (old, subst (λ (n : ℕ). HasView c n old) (sym e) live))
     (λ ne. (now, sym (get-set_other c.views k j (Some new) ne) ∙ at))
 
+-- one event more
+pub led_more : (es : List Event) (c d : Core) (event : Event) (after : Core) → Leads es c d → IsStep d event after → Leads (es ++ event ∷ []) c after
+led_more [] c d event after is step = (after, subst (λ (x : Core). IsStep x event after) (sym is) step, refl)
+led_more (e ∷ es) c d event after led step = (led.0, led.1, led_more es led.0 d event after led.2 step)
+
 -- An event of one caller, which changes what its seat knows: the core after it is sound, and the words are those of its marks.
 pub kept_event : (t : Terms) (ws now : List ℕ) (vs : List View) (id : ℕ) (v w : View) (k : Kept t ws vs) → get_elem? vs id ≡ some v → 0 < v.parts
-    → (hs : List Entry) (ms : List (Option GoalMark)) → IsSound (core_of hs ms (set k.core.views v.caller (Some w.known))) → All (IsFound t) hs
+    → (hs : List Entry) (ms : List (Option GoalMark)) (event : Event) → IsStep k.core event (core_of hs ms (set k.core.views v.caller (Some w.known)))
+    → IsSound (core_of hs ms (set k.core.views v.caller (Some w.known))) → All (IsFound t) hs
     → length now ≡ t.goals + 1 → length ms ≡ t.goals → get_or now 0 0 ≡ length hs → ((g : ℕ) → g < t.goals → get_or now (g + 1) 0 ≡ word_of (get_or ms g None))
     → w.terms ≡ v.terms → w.parts ≡ v.parts → w.caller ≡ v.caller → w.made ≡ v.made → length hs + w.left ≤ length k.core.history + v.left
     → Kept t now (set vs id w)
-kept_event t ws now vs id v w k me live hs ms sound found wide goals count marks terms parts caller made left =
+kept_event t ws now vs id v w k me live hs ms event step sound found wide goals count marks terms parts caller made left =
     let f = k.each id v me in
     let mine = f.known live in
     let views = set k.core.views v.caller (Some w.known) in
@@ -84,6 +92,8 @@ kept_event t ws now vs id v w k me live hs ms sound found wide goals count marks
     let long : length views ≡ length k.core.views = length-set k.core.views v.caller (Some w.known) in
     record {
       core = d;
+      events = k.events ++ event ∷ [];
+      led = led_more k.events (initial_core 1 t.goals) k.core event d k.led step;
       sound = sound;
       found = found;
       wide = wide;
@@ -116,9 +126,12 @@ kept_number t ws vs id v goal source k me may =
     let live = (k.each id v me).known may.live in
     let can : CanNumber k.core v.caller goal = record { range = omega (arith, may.range, k.goals); view = v.known; live = live; idle = may.idle; first = may.first } in
     let same : entry_of v (length k.core.history) goal source ≡ e = ap (λ (x : ℕ). entry_of v x goal source) (sym k.count) in
+    let event : Event = event_kinds.Number v.caller goal (kind_of source) source in
+    let first : IsStep k.core event (core.numbered k.core v.caller v.known (entry_of v (length k.core.history) goal source)) = record { can = can; after = refl } in
+    let step = subst (λ (x : Entry). IsStep k.core event (core.numbered k.core v.caller v.known x)) same first in
     let sound = subst (λ (x : Entry). IsSound (core.numbered k.core v.caller v.known x)) same (number-sound k.core v.caller goal (kind_of source) source can k.sound) in
     let long = length_push k.core.history e in
-    kept_event t ws (set ws 0 (n + 1)) vs id v (numbered v e) k me may.live (k.core.history ++ e ∷ []) k.core.marks sound
+    kept_event t ws (set ws 0 (n + 1)) vs id v (numbered v e) k me may.live (k.core.history ++ e ∷ []) k.core.marks event step sound
     (All-push (IsFound t) k.core.history e k.found (may.found, refl))
     (length-set ws 0 (n + 1) ∙ k.wide) k.goals
     (get_or-set_same ws 0 (n + 1) 0 (omega (arith, k.wide)) ∙ omega (arith, k.count, long))
@@ -157,7 +170,8 @@ kept_mark t ws vs id v e k me live un =
     let x : ℕ = either (eqb (get_or ws (g + 1) 0) 0) (word_of (Some (mark_by e))) (get_or ws (g + 1) 0) in
     let is : x ≡ word_of (Some mark) = mark_word (mark_of k.core g) e (get_or ws (g + 1) 0) (k.marks g lt) in
     let ms = set k.core.marks g (Some mark) in
-    kept_event t ws (set ws (g + 1) x) vs id v (marked v g) k me live k.core.history ms (mark-sound k.core v.caller can k.sound) k.found
+    let step : IsStep k.core (event_kinds.Mark v.caller) (core.marked k.core v.caller v.known e) = record { can = can; after = refl } in
+    kept_event t ws (set ws (g + 1) x) vs id v (marked v g) k me live k.core.history ms (event_kinds.Mark v.caller) step (mark-sound k.core v.caller can k.sound) k.found
     (length-set ws (g + 1) x ∙ k.wide) (length-set k.core.marks g (Some mark) ∙ k.goals)
     (get_or-set_other ws (g + 1) 0 x 0 (λ z. omega arith) ∙ k.count)
     (λ h hl. dite (ℕ_discrete h g)
@@ -176,10 +190,11 @@ marks_allowed t slots id m e live un s k long me small =
 pub kept_look : (t : Terms) (ws : List ℕ) (vs : List View) (id : ℕ) (v : View) (g : ℕ) → (k : Kept t ws vs) → get_elem? vs id ≡ some v → 0 < v.parts → g < t.goals → Kept t ws (set vs id (looked v g (mark_of k.core g)))
 kept_look t ws vs id v g k me live lt =
     let can : CanLook k.core v.caller g = record { range = omega (arith, lt, k.goals); view = v.known; live = (k.each id v me).known live } in
-    kept_event t ws ws vs id v (looked v g (mark_of k.core g)) k me live k.core.history k.core.marks (look-sound k.core v.caller g can k.sound) k.found k.wide k.goals k.count k.marks refl refl refl refl (omega arith)
+    let step : IsStep k.core (event_kinds.Look v.caller g) (core.looked k.core v.caller v.known g) = record { can = can; after = refl } in
+    kept_event t ws ws vs id v (looked v g (mark_of k.core g)) k me live k.core.history k.core.marks (event_kinds.Look v.caller g) step (look-sound k.core v.caller g can k.sound) k.found k.wide k.goals k.count k.marks refl refl refl refl (omega arith)
 
 -- what is found is so of its goal
-found_at : (t : Terms) (hs : List Entry) (n : ℕ) (e : Entry) → All (IsFound t) hs → IsEntry hs n e → IsOfKind t.signals.value e.kind e.goal
+pub found_at : (t : Terms) (hs : List Entry) (n : ℕ) (e : Entry) → All (IsFound t) hs → IsEntry hs n e → IsOfKind t.signals.value e.kind e.goal
 found_at t hs n e all at =
     let f : IsFound t e = subst (IsFound t) (get_or_from_slice_get hs n e e at) (all n e (slice_get_within hs n e at)) in
     subst (λ (kind : Rattle.aig_model.specs.declared.parts.Kind.Kind). IsOfKind t.signals.value kind e.goal) (sym f.1) (found_is_true t.signals.value t.options e.source e.goal f.0)

@@ -1,19 +1,23 @@
 -- What boards and passes are made of.
-use Rattle.std.specs.Prelude.{◌≡◌, ◌≢◌, ℕ, ◌+◌, ◌<◌, ◌≤◌, Bool, true, false, List, [], None, length, map, get_or, All}
+use Rattle.std.specs.Prelude.{◌≡◌, ◌≢◌, ℕ, ◌+◌, ◌*◌, ◌<◌, ◌≤◌, Bool, true, false, List, [], None, length, map, get_or, All}
 use Rattle.std.specs.Vec.{vec_capacity}
 use Rattle.std.specs.declared.vec.Vec.{Vec}
 use Rattle.std.specs.Global.{Global}
 use Rattle.atomic_table.specs.Seated.{TableId}
 use Rattle.aig_model.specs.SignalList.{SignalList}
 use Rattle.board_core.specs.declared.entry.Entry.{Entry}
-use Rattle.inv_cert.specs.Evidences.{kind_of}
+use Rattle.inv_cert.specs.Evidences.{IsEvidence, kind_of}
 use Rattle.goal_board.specs.declared.view.View.{View}
 use Rattle.goal_board.specs.declared.view.Terms.{Terms}
 use Rattle.goal_board.specs.declared.pass.Posted.{Posted}
+use Rattle.goal_board.specs.declared.space.Space.{Space}
 use Rattle.goal_board.specs.Lists.{trues}
 use Rattle.goal_board.specs.Rule.{Sat}
 use Rattle.board_core.specs.Core.{fresh_view}
-use Rattle.goal_board.specs.Passes.{PassState}
+use Rattle.goal_board.specs.Passes.{BoardState, PassState}
+
+abbrev pub board_state : TableId → Terms → BoardState
+board_state table terms = record { table = table; terms = terms }
 
 pub record IsBoardTable (table : TableId) (terms : Terms) : Type 0 where
   pub words : table.words ≡ terms.goals + 1
@@ -31,8 +35,9 @@ pass_state signals posted posts table v = record {
   evidence = map (λ (p : Posted). p.evidence) posts;
 }
 
--- the evidence is for these signals, and of the entry's goal and kind
+-- the evidence was checked, is for these signals, and of the entry's goal and kind
 pub record IsEvidenced (signals : SignalList) (p : Posted) : Type 0 where
+  pub checked : IsEvidence p.evidence
   pub signals_are : p.evidence.signals ≡ signals
   pub goal : p.evidence.goal ≡ p.entry.goal
   pub kind : kind_of p.evidence.basis ≡ p.entry.kind
@@ -55,6 +60,15 @@ pub record IsPass (posts : Vec Posted Global) (posted : List Bool) (by front : �
   pub room : length posted ≤ vec_capacity posts
   pub evidenced : All (IsEvidenced signals) posts.items
 
+-- nothing is in it yet, and there is room for so many posts, and marks of so many goals
+pub record IsSpace (space : Space) (posts goals : ℕ) : Type 0 where
+  pub none : (space.posts.items ≡ []) × (space.places.items ≡ []) × (space.history.items ≡ []) × (space.evidence.items ≡ []) × (space.marks.items ≡ [])
+  pub posts_room : posts ≤ vec_capacity space.posts
+  pub places_room : posts ≤ vec_capacity space.places
+  pub history_room : posts ≤ vec_capacity space.history
+  pub evidence_room : posts ≤ vec_capacity space.evidence
+  pub marks_room : goals ≤ vec_capacity space.marks
+
 -- a view with which a caller begins
 pub record IsFreshView (by goals : ℕ) (v : View) : Type 0 where
   pub parts : v.parts ≡ 1
@@ -62,7 +76,8 @@ pub record IsFreshView (by goals : ℕ) (v : View) : Type 0 where
   pub known : v.known ≡ fresh_view
   pub left : v.left ≡ goals
 
--- the passes' list has room for as many as it was made with
-pub record ArePasses (passes : Vec PassState Global) (room : ℕ) : Type 0 where
+-- the passes' list has room for as many as it was made with, and there is room for what so many callers can post
+pub record ArePasses (passes : Vec PassState Global) (space : Space) (room goals : ℕ) : Type 0 where
   pub few : length passes.items ≤ room
   pub capacity : room ≤ vec_capacity passes
+  pub space_is : IsSpace space (room * goals) goals

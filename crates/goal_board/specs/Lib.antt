@@ -2,4 +2,6 @@ pub mod Lists
 pub mod Found
 pub mod Rule
 pub mod Passes
+pub mod History
 pub mod Inside
+pub mod Ends

@@ -28,10 +28,11 @@ pub record PassState : Type 0 where
   pub known : Known
   pub evidence : List Evidence
 
--- the passes at hand, and how many passes the list was made with
+-- the passes at hand, and for how many passes and goals the list was made
 pub record PassesState : Type 0 where
   pub passes : List PassState
   pub room : ℕ
+  pub goals : ℕ
 
 -- a caller's pass before its first call
 abbrev pub new_pass : BoardState → ℕ → PassState
@@ -58,6 +59,7 @@ pub record AreAllOf (board : BoardState) (s : PassesState) : Type 0 where
   pub count : length s.passes ≡ board.terms.callers
   pub distinct : AllPairs (λ (a b : PassState). a.caller ≢ b.caller) s.passes
   pub room : s.room ≡ board.terms.callers
+  pub goals : s.goals ≡ board.terms.goals
 
 -- the goal is in range, and the caller hasn't posted for it
 pub record MayPost (pass : PassState) (goal : ℕ) : Type 0 where

@@ -5,10 +5,11 @@ use lib.ListN.{get_elem?}
 use Rattle.atomic_table.specs.Table.{Me, Step}
 use Rattle.board_core.specs.declared.entry.Entry.{Entry}
 use Rattle.board_core.specs.declared.entry.Source.{Source}
+use Rattle.board_core.specs.declared.event.Event.{Event}
 use Rattle.board_core.specs.declared.view.GoalMark.{GoalMark}
 use Rattle.board_core.specs.History.{kind_of}
-use Rattle.board_core.specs.Core.{Core, HasView, mark_of, word_of, fresh_view, with_entry, with_mark, with_look, with_all}
-use Rattle.board_core.specs.Good.{IsSound}
+use Rattle.board_core.specs.Core.{Core, HasView, mark_of, word_of, fresh_view, initial_core, with_entry, with_mark, with_look, with_all}
+use Rattle.board_core.specs.Good.{IsSound, Leads}
 use Rattle.goal_board.specs.declared.view.View.{View}
 use Rattle.goal_board.specs.declared.view.Terms.{Terms}
 use Rattle.goal_board.specs.Found.{Found, IsOfKind}
@@ -35,6 +36,9 @@ HasSeat views k = (i : ℕ) × (v : View) × (get_elem? views i ≡ some v) × (
 
 pub record Kept (t : Terms) (words : List ℕ) (views : List View) : Type 0 where
   pub core : Core
+  -- each step so far was one event of the core
+  pub events : List Event
+  pub led : Leads events (initial_core 1 t.goals) core
   pub sound : IsSound core
   pub found : All (IsFound t) core.history
   pub wide : length words ≡ t.goals + 1

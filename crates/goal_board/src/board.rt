@@ -11,11 +11,11 @@ pub struct Board {
 
 impl Model for Board {
     ghost use Rattle.goal_board.specs.Passes.{BoardState};
-    ghost use Rattle.goal_board.specs.Inside.{IsBoardTable};
+    ghost use Rattle.goal_board.specs.Inside.{board_state, IsBoardTable};
 
     ghost Value = { BoardState };
 
-    ghost view = { λ b. record { table = b.table.shared.table_id; terms = b.table.shared.key } };
+    ghost view = { λ b. board_state b.table.shared.table_id b.table.shared.key };
 
     ghost invariant = { λ b. IsBoardTable b.table.shared.table_id b.table.shared.key };
 }

@@ -30,7 +30,7 @@ pub enum Look {
 }
 
 /// The mark that a word stands for.
-fn mark_in(word: u64) -> Option<GoalMark>
+pub(crate) fn mark_in(word: u64) -> Option<GoalMark>
     ensures mark { (mark : Option GoalMark) → word ≡ word_of mark → result ≡ mark }
     ensures small { IfSome result (λ m. m.number < 9223372036854775808) }
 {

@@ -9,6 +9,7 @@ ghost use Rattle.goal_board.specs.Inside.{IsFreshView};
 use crate::board::Board;
 use crate::pass::Pass;
 use crate::passes::Passes;
+use crate::space::make_space;
 use crate::table::{TableSeat, cut, set_up};
 use aig_model::Signals;
 use ketch_base::OutOfMemory;
@@ -30,6 +31,7 @@ pub fn make_board(
     ensures all { IfOk result (λ r. AreAllOf r.0 r.1) }
 {
     let goals = signals.goals();
+    let space = make_space(alloc, callers, goals)?;
     let mut passes = Vec::with_capacity(alloc, callers as usize)?;
     let (table, mut first) = set_up(alloc, signals, options, callers)?;
     for caller in 1..callers {
@@ -42,6 +44,8 @@ pub fn make_board(
         Passes {
             passes,
             room: callers,
+            goals,
+            space,
         },
     ))
 }

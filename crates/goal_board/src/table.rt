@@ -35,7 +35,7 @@ pub fn set_up(
     ensures terms { IfOk result (λ r. (r.0.shared.key.signals.value ≡ signals.now) × (r.0.shared.key.options ≡ options.now) × (r.0.shared.key.goals ≡ 2 ^ length signals.now.lits) × (r.0.shared.key.callers ≡ callers)) }
     ensures seat { IfOk result (λ r. (r.1.table_id ≡ r.0.shared.table_id) × (r.1.me ≡ (first r.0.shared.key, []))) }
 {
-    let _ = signals.lits();
+    signals.is_well_formed();
     let goals = signals.goals();
     let words = vec![in alloc; 0u64; goals as usize + 1]?;
     let terms = Terms {

@@ -56,6 +56,7 @@ invariant_of-result-2 c =
     record {
       few = omega (arith, long, count);
       capacity = omega (arith, c.in_ok-insert.ensures.capacity, c.loop-caller.invariant.room);
+      space_is = c.in_ok-space.ensures;
     }
 
 pub returns-clause-passes : goal.returns-clause-passes
@@ -65,4 +66,4 @@ pub returns-clause-all : goal.returns-clause-all
 returns-clause-all c =
     let terms = c.in_ok-table.ensures.terms in
     let board : BoardState = record { table = c.in_ok-table.table.shared.table_id; terms = c.in_ok-table.table.shared.key } in
-    all_of board _ (made_passes c ∙ ap (λ k. map (new_pass board) (range_with_len 0 k)) (sym terms.3)) (sym terms.3)
+    all_of board _ (made_passes c ∙ ap (λ k. map (new_pass board) (range_with_len 0 k)) (sym terms.3)) (sym terms.3) (c.goals-goals.ensures ∙ sym terms.2)

@@ -41,7 +41,7 @@ invariant_of-pass c =
     let is : entry ≡ entry_of p.seat.me.0 n g c.args.source = λ i. record { number = n; caller = sym c.pass.invariant.caller i; goal = g; kind = c.kind.ensures i; source = c.args.source; low = sym c.pass.invariant.front_is i } in
     let signals : c.args.evidence.signals ≡ p.signals.value = c.requires.evidence ∙ sym c.requires.pass.signals ∙ sym (ap (λ (s : PassState). s.signals) c.pass.view_is) in
     let kind = evidence_kind c.args.self.now.terms.signals.value c.args.self.now.terms.options c.args.source c.args.evidence c.is_checked.ensures c.requires.evidence c.requires.found in
-    let ev : IsEvidenced p.signals.value post = record { signals_are = signals; goal = sym same; kind = kind ∙ sym c.kind.ensures } in
+    let ev : IsEvidenced p.signals.value post = record { checked = c.is_checked.ensures; signals_are = signals; goal = sym same; kind = kind ∙ sym c.kind.ensures } in
     let view : c.mark.new.seat.me ≡ (marked (numbered p.seat.me.0 (entry_of p.seat.me.0 n g c.args.source)) g, p.seat.me.1) = c.mark.ensures.view ∙ ap (λ (m : Sat). (marked m.0 g, m.1)) c.number-number.ensures.view in
     subst (λ (m : Sat). IsPass c.push_reserved.new.self (set p.posted.items g true) p.caller (n + 1) p.signals.value m) (sym view)
     (pass_posted p.posts c.push_reserved.new.self p.posted.items p.caller p.front p.signals.value p.seat.me g c.args.source n post c.pass.invariant range
