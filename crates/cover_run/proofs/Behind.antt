@@ -1,12 +1,12 @@
 -- A file that is read behind a circuit and its signals.
-use Rattle.std.proofs.Common.{◌≡◌, ◌+◌, List, [], ◌∷◌, ◌++◌, inl, inr, arith}
+use Rattle.std.proofs.Common.{◌≡◌, List, [], ◌∷◌, ◌++◌, inl, inr, arith}
 use Rattle.run_io.specs.Desk.{DeskState, FileGiven, HasSameTexts, HasSameFaults, CountsFaults}
-use Rattle.cover_run.specs.declared.stop.Stop.{Stop}
-use Rattle.cover_run.specs.declared.stop.Stop.TheVariants as stops
+use Rattle.command_words.specs.declared.stop.Stop.{Stop}
+use Rattle.command_words.specs.declared.stop.Stop.TheVariants as stops
 use Rattle.cover_run.specs.Files.{NamedFile, AreWithin, AreRead, EndsAt, EndsFailed, EndsPast, IsFine, IsAllRead, HasRead}
 use Rattle.cover_run.specs.Seen.{DeskSeen, seen}
 use Rattle.cover_run.specs.Steps.{SubjectCause}
-use Rattle.cover_run.specs.Words.{Subject}
+use Rattle.command_words.specs.Words.{Subject}
 use Rattle.cover_run.proofs.Opening.{within_none}
 use Rattle.cover_run.proofs.Reading.{gave_after, faults_after, to_end_by, read_since, ends_since}
 

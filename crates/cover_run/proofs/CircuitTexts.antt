@@ -12,8 +12,8 @@ use Rattle.aig_binary.specs.Aig as aig
 use Rattle.aig_binary.specs.declared.fault.AigKind.{AigKind}
 use Rattle.aig_binary.proofs.Answering as binary
 use Rattle.aig_binary.proofs.RightFile.{file-circuit}
-use Rattle.cover_run.specs.declared.stop.CircuitKind.{CircuitKind}
-use Rattle.cover_run.specs.declared.stop.CircuitKind.TheVariants as kinds
+use Rattle.command_words.specs.declared.stop.CircuitKind.{CircuitKind}
+use Rattle.command_words.specs.declared.stop.CircuitKind.TheVariants as kinds
 use Rattle.cover_run.specs.CircuitText.{is_binary, SpellsIn, IsFirstFaultIn, SpellsCircuit, IsFirstFault}
 
 one_in : (format : Bool) (t : List ℕ) (c d : Parts) → SpellsIn format t c → SpellsIn format t d → c ≡ d

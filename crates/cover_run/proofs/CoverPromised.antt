@@ -7,19 +7,19 @@ use Rattle.sim_walk.specs.declared.options.Options.{Options}
 use Rattle.cover_run.specs.CircuitText.{SpellsCircuit}
 use Rattle.signal_list.specs.SignalText.{SpellsSignals}
 use Rattle.signal_list.proofs.OneReading as signals_text
-use Rattle.cover_run.specs.declared.stop.File.TheVariants as files
-use Rattle.cover_run.specs.declared.stop.Measure.{Measure}
-use Rattle.cover_run.specs.declared.stop.Measure.TheVariants as measures
-use Rattle.cover_run.specs.declared.stop.Stop.{Stop}
-use Rattle.cover_run.specs.declared.stop.Stop.TheVariants as stops
-use Rattle.cover_run.specs.declared.stop.Status.{Status}
-use Rattle.cover_run.specs.declared.stop.Status.TheVariants as statuses
+use Rattle.command_words.specs.declared.stop.File.TheVariants as files
+use Rattle.command_words.specs.declared.stop.Measure.{Measure}
+use Rattle.command_words.specs.declared.stop.Measure.TheVariants as measures
+use Rattle.command_words.specs.declared.stop.Stop.{Stop}
+use Rattle.command_words.specs.declared.stop.Stop.TheVariants as stops
+use Rattle.command_words.specs.declared.stop.Status.{Status}
+use Rattle.command_words.specs.declared.stop.Status.TheVariants as statuses
 use Rattle.cover_run.specs.Answer.{IsOutput, IsAnswer, Cause}
 use Rattle.cover_run.specs.Covering.{frames_of, walk_of, HasRoom, IsTooMuch, IsSignalsText, IsCoverOutput}
 use Rattle.cover_run.specs.Promises.{IsTold, Accepts, IsUndisturbed, IsCovered, Headline, Completeness, TooMuchComes}
 use Rattle.cover_run.specs.Seen.{DeskSeen, SinkSeen, Took}
-use Rattle.cover_run.specs.Stops.{status_of, settled_status}
-use Rattle.cover_run.specs.Words.{CoverCall, Meaning, Cover}
+use Rattle.command_words.specs.Stops.{status_of, settled_status}
+use Rattle.command_words.specs.Words.{CoverCall, Meaning, Cover}
 use Rattle.cover_run.proofs.Told.{settles_asked}
 use Rattle.cover_run.proofs.Promised.{settled_either, not_ended, stopped_so}
 use Rattle.cover_run.proofs.SubjectPromised.{same_told, signals_spelled, read_accepted}

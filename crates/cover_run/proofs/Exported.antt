@@ -4,15 +4,15 @@ use Rattle.aig_model.specs.declared.parts.Parts.{Parts}
 use Rattle.aig_ascii.specs.CircuitText.{IsTextOf}
 use Rattle.aig_ascii.specs.RoundTrip.{ReadsBack}
 use Rattle.goal_circuit.specs.GoalCircuit.{goal_parts}
-use Rattle.cover_run.specs.declared.stop.Measure.TheVariants as measures
-use Rattle.cover_run.specs.declared.stop.Stop.{Stop}
-use Rattle.cover_run.specs.declared.stop.Stop.TheVariants as stops
+use Rattle.command_words.specs.declared.stop.Measure.TheVariants as measures
+use Rattle.command_words.specs.declared.stop.Stop.{Stop}
+use Rattle.command_words.specs.declared.stop.Stop.TheVariants as stops
 use Rattle.cover_run.specs.Answer.{EarlyCause}
 use Rattle.cover_run.specs.Covering.{HasCircuit, HasSignals}
 use Rattle.cover_run.specs.Exporting.{IsTooManyGoals, IsGoalText}
 use Rattle.cover_run.specs.Seen.{DeskSeen}
 use Rattle.cover_run.specs.Steps.{GoalsCause}
-use Rattle.cover_run.specs.Words.{Subject, Goals}
+use Rattle.command_words.specs.Words.{Subject, Goals}
 
 pub goal_text : (c : Parts) (sig : List ℕ) (goals : Parts) (bytes : List ℕ) → (IsTooManyGoals c sig → ⊥) → goals ≡ goal_parts c sig → IsTextOf goals bytes
     → ReadsBack goals bytes → IsGoalText c sig bytes

@@ -42,6 +42,7 @@ block_kept c vs v g (blocks.Reached n w) other h = record {
   goal_of_visit = h.goal_of_visit;
   trace = h.trace;
 }
+block_kept c vs v g (blocks.Unreachable n inv proof) other h = h
 block_kept c vs v g (blocks.Open depth hops strength) other h = (
   λ has. elim (Contains-push_cases (goals_of vs) v.goal g (subst (λ (x : List ℕ). Contains x g) (map_push (λ (y : Visit). y.goal) vs v) has)) [ inl before ↦ h.0 before | inr e ↦ other e ],
   h.1,

@@ -45,28 +45,36 @@ block_fits c vs g (blocks.Reached n w) short h = (
     width_is = h.trace.width;
     rows_wide = rw h.trace.rows (recursion_from_All (λ (row : List Bool). length row ≡ length c.inputs) (replicate (h.visit.step + 1) (zero_row c))
         (All-replicate (λ (row : List Bool). length row ≡ length c.inputs) (h.visit.step + 1) (zero_row c) (length-replicate (length c.inputs) false)));
+    some = omega (arith, ap length h.trace.rows, length-replicate (h.visit.step + 1) (zero_row c));
   },
 )
-block_fits c vs g (blocks.Open depth hops strength) short h = subst (λ (b : GoalBlock). FitsBlock (length c.inputs) (length c.latches) b) (sym h.1) (tt, tt, tt)
+block_fits c vs g (blocks.Unreachable n inv proof) short h = absurd h
+block_fits c vs g (blocks.Open depth hops strength) short h =
+    subst (λ (b : GoalBlock). FitsBlock (length c.inputs) (length c.latches) b) (sym h.1) (record { depth_fits = tt; hops_fit = tt; strength_fits = tt })
 
 pub report_form : (c : Parts) (sig : List ℕ) (o : Options) (vs : List Visit) (blocks : List GoalBlock) (r : Report) → IsCircuit c → IsSignals c sig → FitsOptions o
     → AreZeroVisits c sig o.length vs → AreBlocksFrom c vs (2 ^ length sig) blocks → Holds c sig o (posts_of vs) blocks r → HasForm r
 report_form c sig o vs blocks r ok signals_ok fits walked made h =
     let few = few_goals sig signals_ok.few in
-    let short : length vs < 2 ^ 64 = omega (arith, visits_few c sig (zero_lanes c) o.length vs walked, few) in
+    let visited : length vs < 2 ^ 32 = omega (arith, visits_few c sig (zero_lanes c) o.length vs walked, few) in
+    let short : length vs < 2 ^ 64 = omega arith in
     record {
       inputs = omega (arith, h.inputs, ok.sized.inputs);
       latches = omega (arith, h.latches, ok.sized.latches);
       signals = omega (arith, h.signals, signals_ok.few);
       options = rw h.options fits;
-      entries = omega (arith, ap length h.history, length-posts vs);
-      history = rw h.history (recursion_from_All FitsEntry (posts_of vs) (λ k d l. post_fits c sig o.length vs walked signals_ok.few short k (get_or (posts_of vs) k d) (slice_get-get_or (posts_of vs) k d l)));
-      seeds = h.seeds;
-      invs = h.invs;
-      blocks = omega (arith, ap length h.goals, made.size, few);
-      goals = rw (h.inputs, h.latches, h.goals) (recursion_from_All (FitsBlock (length c.inputs) (length c.latches)) blocks (λ k d l. block_fits c vs k (get_or blocks k d) short (made.each k (get_or blocks k d) (slice_get-get_or blocks k d l))));
-      spents = h.spents;
-      refutes = h.refutes;
+      history = record {
+        count = omega (arith, ap length h.history, length-posts vs);
+        items = rw h.history (recursion_from_All FitsEntry (posts_of vs) (λ k d l. post_fits c sig o.length vs walked signals_ok.few short k (get_or (posts_of vs) k d) (slice_get-get_or (posts_of vs) k d l)));
+      };
+      seeds = record { count = omega (arith, ap length h.seeds); items = rw h.seeds tt };
+      invs = record { count = omega (arith, ap length h.invs); items = rw h.invs tt };
+      goals = record {
+        count = omega (arith, ap length h.goals, made.size, few);
+        items = rw (h.inputs, h.latches, h.goals) (recursion_from_All (FitsBlock (length c.inputs) (length c.latches)) blocks (λ k d l. block_fits c vs k (get_or blocks k d) short (made.each k (get_or blocks k d) (slice_get-get_or blocks k d l))));
+      };
+      spents = record { count = omega (arith, ap length h.spents); items = rw h.spents tt };
+      refutes = record { count = omega (arith, ap length h.refutes); items = rw h.refutes tt };
       reached = omega (arith, h.reached, count_by-le-length is_reached blocks, made.size, few);
       unreachable = omega (arith, h.unreachable);
       unsettled = omega (arith, h.unsettled, count_by-le-length is_open blocks, made.size, few);

@@ -5,18 +5,18 @@ use Rattle.aig_model.specs.declared.parts.Parts.{Parts}
 use Rattle.cover_run.specs.CircuitText.{SpellsCircuit}
 use Rattle.signal_list.specs.SignalText.{SpellsSignals}
 use Rattle.signal_list.proofs.OneReading as signals_text
-use Rattle.cover_run.specs.declared.stop.File.TheVariants as files
-use Rattle.cover_run.specs.declared.stop.Measure.TheVariants as measures
-use Rattle.cover_run.specs.declared.stop.Stop.{Stop}
-use Rattle.cover_run.specs.declared.stop.Stop.TheVariants as stops
-use Rattle.cover_run.specs.declared.stop.Status.{Status}
+use Rattle.command_words.specs.declared.stop.File.TheVariants as files
+use Rattle.command_words.specs.declared.stop.Measure.TheVariants as measures
+use Rattle.command_words.specs.declared.stop.Stop.{Stop}
+use Rattle.command_words.specs.declared.stop.Stop.TheVariants as stops
+use Rattle.command_words.specs.declared.stop.Status.{Status}
 use Rattle.cover_run.specs.Answer.{IsOutput, IsAnswer, Cause}
 use Rattle.cover_run.specs.Covering.{HasCircuit, HasSignals, IsSignalsText}
 use Rattle.cover_run.specs.Exporting.{IsTooManyGoals, IsGoalText, IsGoalsOutput}
 use Rattle.cover_run.specs.Promises.{IsTold, Accepts, IsUndisturbed, IsExported, ExportedCause, ExportedComes, ManyGoalsComes}
 use Rattle.cover_run.specs.Seen.{DeskSeen, SinkSeen, Took}
-use Rattle.cover_run.specs.Stops.{status_of, settled_status}
-use Rattle.cover_run.specs.Words.{Subject, Meaning, Goals}
+use Rattle.command_words.specs.Stops.{status_of, settled_status}
+use Rattle.command_words.specs.Words.{Subject, Meaning, Goals}
 use Rattle.cover_run.proofs.Promised.{not_ended, stopped_so}
 use Rattle.cover_run.proofs.SubjectPromised.{same_told, signals_spelled, read_accepted}
 use Rattle.cover_run.proofs.Stopped.{GoalsStops, not_read, too_many, not_exported, lack_of_memory, goals_stops}

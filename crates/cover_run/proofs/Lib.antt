@@ -4,7 +4,6 @@ pub mod CoverPromised
 pub mod Exported
 pub mod Filled
 pub mod Formed
-pub mod FrontWord
 pub mod GoalsPromised
 pub mod LratPromised
 pub mod Opening

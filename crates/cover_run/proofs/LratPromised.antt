@@ -15,18 +15,19 @@ use Rattle.lrat_check.specs.FirstFault.{first_fault}
 use Rattle.lrat_check.specs.declared.fault.ProofKind.{ProofKind}
 use Rattle.lrat_check.proofs.Agreement.{accepted_without_fault}
 use Rattle.lrat_check.proofs.Refutation.{accepted_refutes}
-use Rattle.cover_run.specs.declared.stop.File.TheVariants as files
-use Rattle.cover_run.specs.declared.stop.Refusal.TheVariants as refusals
-use Rattle.cover_run.specs.declared.stop.Stop.{Stop}
-use Rattle.cover_run.specs.declared.stop.Stop.TheVariants as stops
-use Rattle.cover_run.specs.declared.stop.Status.{Status}
+use Rattle.command_words.specs.declared.stop.File.TheVariants as files
+use Rattle.command_words.specs.declared.stop.Refusal.TheVariants as refusals
+use Rattle.command_words.specs.declared.stop.Stop.{Stop}
+use Rattle.command_words.specs.declared.stop.Stop.TheVariants as stops
+use Rattle.command_words.specs.declared.stop.Status.{Status}
 use Rattle.cover_run.specs.Answer.{IsOutput, IsAnswer, Cause}
 use Rattle.cover_run.specs.Checking.{formula_stop, IsFormulaText, IsProofText, HasFormulaFault, HasProofFault, HasFormula, HasProof, HasSomeFormula, IsLratOutput}
-use Rattle.cover_run.specs.Files.{limit_of, IsTooLong}
+use Rattle.command_words.specs.Limits.{limit_of}
+use Rattle.cover_run.specs.Files.{IsTooLong}
 use Rattle.cover_run.specs.Promises.{IsTold, IsToldTooLong, Spells, IsUndisturbed, IsProved, AcceptedCause, AcceptedComes, BadFormulaComes, BadProofComes, BadStepComes, LongFormulaComes, LongProofComes}
 use Rattle.cover_run.specs.Seen.{DeskSeen, SinkSeen, HasText, HasFaulted, Failed, Took}
-use Rattle.cover_run.specs.Stops.{status_of, settled_status}
-use Rattle.cover_run.specs.Words.{LratCall, Meaning, Lrat}
+use Rattle.command_words.specs.Stops.{status_of, settled_status}
+use Rattle.command_words.specs.Words.{LratCall, Meaning, Lrat}
 use Rattle.cover_run.proofs.WhereTold.{text-at}
 use Rattle.cover_run.proofs.Promised.{told_long, not_ended, stopped_so}
 use Rattle.cover_run.proofs.Stopped.{LratStops, formula_unreadable, formula_long, bad_formula, proof_unreadable, proof_long, bad_proof, bad_step, not_accepted_written, no_memory, lrat_stops}

@@ -6,9 +6,10 @@ use Rattle.std.proofs.lemmas.List.{append-nil}
 use Rattle.run_io.specs.Desk.{DeskState, FileGiven, HasSameFaults, IsKept, IsOpen, files_started, with_open}
 use Rattle.run_io.specs.declared.read.ReadFault.{ReadFault}
 use Rattle.run_io.specs.declared.read.ReadFault.TheVariants as faults
-use Rattle.cover_run.specs.declared.stop.File.{File}
-use Rattle.cover_run.specs.declared.stop.Stop.TheVariants as stops
-use Rattle.cover_run.specs.Files.{NamedFile, limit_of, AreWithin, AreRead, IsWithin, IsFine, IsAllRead, HasFailed, HasRead}
+use Rattle.command_words.specs.declared.stop.File.{File}
+use Rattle.command_words.specs.declared.stop.Stop.TheVariants as stops
+use Rattle.command_words.specs.Limits.{limit_of}
+use Rattle.cover_run.specs.Files.{NamedFile, AreWithin, AreRead, IsWithin, IsFine, IsAllRead, HasFailed, HasRead}
 use Rattle.cover_run.specs.Seen.{DeskSeen, seen, Gave}
 
 opened_gave : (a b : DeskState) (name : List ℕ) → IsOpen a b name → Gave (seen a b) ((name, b.given) ∷ [])

@@ -3,22 +3,23 @@ use Rattle.std.proofs.Common.{◌≡◌, ◌↔◌, ℕ, ◌<◌, ◌≤◌, Boo
 use Rattle.std.specs.Prelude.{◌⊎◌, IsSomeAnd}
 use Rattle.std.proofs.lemmas.Option.{none-some}
 use Rattle.run_io.specs.Desk.{FileGiven, HasSameFaults}
-use Rattle.cover_run.specs.declared.stop.CircuitKind.{CircuitKind}
+use Rattle.command_words.specs.declared.stop.CircuitKind.{CircuitKind}
 use Rattle.signal_list.specs.declared.fault.SigKind.{SigKind}
-use Rattle.cover_run.specs.declared.stop.File.{File}
-use Rattle.cover_run.specs.declared.stop.Measure.{Measure}
-use Rattle.cover_run.specs.declared.stop.Refusal.{Refusal}
-use Rattle.cover_run.specs.declared.stop.Stop.{Stop}
-use Rattle.cover_run.specs.declared.stop.Stop.TheVariants as stops
-use Rattle.cover_run.specs.declared.stop.Status.{Status}
-use Rattle.cover_run.specs.declared.stop.Status.TheVariants as statuses
+use Rattle.command_words.specs.declared.stop.File.{File}
+use Rattle.command_words.specs.declared.stop.Measure.{Measure}
+use Rattle.command_words.specs.declared.stop.Refusal.{Refusal}
+use Rattle.command_words.specs.declared.stop.Stop.{Stop}
+use Rattle.command_words.specs.declared.stop.Stop.TheVariants as stops
+use Rattle.command_words.specs.declared.stop.Status.{Status}
+use Rattle.command_words.specs.declared.stop.Status.TheVariants as statuses
 use Rattle.cover_run.specs.Answer.{HasBadCircuit, HasBadSignals, IsTooLarge, IsRefused, IsOutput, IsPartial, IsStopped, IsAnswer, IsStoppedAnswer, Cause}
-use Rattle.cover_run.specs.Files.{NamedFile, files_of, name_of, limit_of, IsTooLong, AreWithin, EndsAt, EndsFailed, IsWithin, HasFailed, IsPast, IsAllRead, HasRead}
+use Rattle.command_words.specs.Limits.{limit_of}
+use Rattle.cover_run.specs.Files.{NamedFile, files_of, name_of, IsTooLong, AreWithin, EndsAt, EndsFailed, IsWithin, HasFailed, IsPast, IsAllRead, HasRead}
 use Rattle.cover_run.specs.Promises.{fixed_text, IsPrinted, PrintedCause, PrintedComes, HasEnded, Answers, ReadFaultCause, BadCircuitCause, BadSignalsCause, LimitCause, WithinLimits, AllRead, NoFault, WrittenCause, RefusedCause, PrefixAfterFault, SaysLine}
 use Rattle.cover_run.specs.Seen.{DeskSeen, SinkSeen, HasFaulted, Failed, Took, TookWhatItCould}
-use Rattle.cover_run.specs.Stops.{line_of, status_of, settled_status}
-use Rattle.cover_run.specs.Words.{Meaning, Usage, Help, Version, Cover, Goals, Replay, Lrat}
-use Rattle.cover_run.specs.About.{help_text, version_text}
+use Rattle.command_words.specs.Stops.{line_of, status_of, settled_status}
+use Rattle.command_words.specs.Words.{Meaning, Usage, Help, Version, Cover, Goals, Replay, Lrat}
+use Rattle.command_words.specs.About.{help_text, version_text}
 use Rattle.cover_run.proofs.Opening.{within_none, all_within}
 use Rattle.cover_run.proofs.Stopped.{fixed_stops}
 use Rattle.cover_run.proofs.WhereTold.{IfSome-at}

@@ -6,23 +6,24 @@ use Rattle.run_io.specs.Desk.{DeskState, FileGiven, HasSameTexts, HasSameFaults,
 use Rattle.cnf_base.specs.Dimacs.{IsFirstFault as IsFirstInFormula}
 use Rattle.cnf_base.specs.declared.fault.DimacsKind.{DimacsKind}
 use Rattle.cnf_base.specs.declared.fault.DimacsKind.TheVariants as dimacs
-use Rattle.cover_run.specs.declared.stop.File.{File}
-use Rattle.cover_run.specs.declared.stop.File.TheVariants as files
-use Rattle.cover_run.specs.declared.stop.Measure.TheVariants as measures
-use Rattle.cover_run.specs.declared.stop.Refusal.TheVariants as refusals
-use Rattle.cover_run.specs.declared.stop.Stop.{Stop}
-use Rattle.cover_run.specs.declared.stop.Stop.TheVariants as stops
+use Rattle.command_words.specs.declared.stop.File.{File}
+use Rattle.command_words.specs.declared.stop.File.TheVariants as files
+use Rattle.command_words.specs.declared.stop.Measure.TheVariants as measures
+use Rattle.command_words.specs.declared.stop.Refusal.TheVariants as refusals
+use Rattle.command_words.specs.declared.stop.Stop.{Stop}
+use Rattle.command_words.specs.declared.stop.Stop.TheVariants as stops
 use Rattle.cover_run.specs.Answer.{EarlyCause, IsReached}
 use Rattle.cover_run.specs.Checking.{HasFormulaFault}
 use Rattle.aig_model.specs.declared.parts.Parts.{Parts}
 use Rattle.signal_list.specs.SignalText.{IsFirstFault as IsFirstInSignals}
 use Rattle.cover_run.specs.CircuitText.{IsFirstFault as IsFirstInCircuit}
 use Rattle.cover_run.specs.Covering.{HasCircuit, HasSomeCircuit}
-use Rattle.cover_run.specs.Files.{NamedFile, name_of, limit_of, AreWithin, IsReadToEnd, AreRead, EndsAt, EndsFailed, EndsPast, IsWithin, IsFine, IsAllRead, HasRead, IsTooLong}
+use Rattle.command_words.specs.Limits.{limit_of}
+use Rattle.cover_run.specs.Files.{NamedFile, name_of, AreWithin, IsReadToEnd, AreRead, EndsAt, EndsFailed, EndsPast, IsWithin, IsFine, IsAllRead, HasRead, IsTooLong}
 use Rattle.cover_run.specs.Seen.{DeskSeen, seen, HasText, HasFaulted, Gave}
 use Rattle.cover_run.specs.Steps.{IsPartRead, PartCause, SubjectCause, FormulaCause, CircuitCause, SignalsCause}
-use Rattle.cover_run.specs.Stops.{is_of_devices}
-use Rattle.cover_run.specs.Words.{Subject, CoverCall, ReplayCall, LratCall, Meaning, Usage, Cover, Goals, Replay, Lrat}
+use Rattle.command_words.specs.Stops.{is_of_devices}
+use Rattle.command_words.specs.Words.{Subject, CoverCall, ReplayCall, LratCall, Meaning, Usage, Cover, Goals, Replay, Lrat}
 use Rattle.cover_run.proofs.Opening.{within_none}
 
 -- ---- what was given, file after file

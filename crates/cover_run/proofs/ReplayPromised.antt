@@ -12,21 +12,21 @@ use Rattle.wit_text.specs.WitnessText.{SpellsWitness, IsFirstFault as IsFirstInW
 use Rattle.wit_text.specs.declared.fault.WitKind.{WitKind}
 use Rattle.wit_text.specs.declared.witness.Witness.{Witness}
 use Rattle.wit_text.proofs.Answering as witness_text
-use Rattle.cover_run.specs.declared.stop.File.TheVariants as files
-use Rattle.cover_run.specs.declared.stop.Misfit.{Misfit}
-use Rattle.cover_run.specs.declared.stop.Misfit.TheVariants as misfits
-use Rattle.cover_run.specs.declared.stop.Refusal.TheVariants as refusals
-use Rattle.cover_run.specs.declared.stop.Stop.{Stop}
-use Rattle.cover_run.specs.declared.stop.Stop.TheVariants as stops
-use Rattle.cover_run.specs.declared.stop.Status.{Status}
+use Rattle.command_words.specs.declared.stop.File.TheVariants as files
+use Rattle.command_words.specs.declared.stop.Misfit.{Misfit}
+use Rattle.command_words.specs.declared.stop.Misfit.TheVariants as misfits
+use Rattle.command_words.specs.declared.stop.Refusal.TheVariants as refusals
+use Rattle.command_words.specs.declared.stop.Stop.{Stop}
+use Rattle.command_words.specs.declared.stop.Stop.TheVariants as stops
+use Rattle.command_words.specs.declared.stop.Status.{Status}
 use Rattle.cover_run.specs.Answer.{IsOutput, IsAnswer, Cause}
 use Rattle.cover_run.specs.Covering.{HasCircuit, HasSignals}
-use Rattle.cover_run.specs.Files.{limit_of}
+use Rattle.command_words.specs.Limits.{limit_of}
 use Rattle.cover_run.specs.Promises.{IsTold, IsToldTooLong, Accepts, IsToldSubject, SpellsReplay, IsUndisturbed, IsReplayed, ReplayedCause, ReplayedComes, LongWitnessComes, BadWitnessComes, MisfitComes}
 use Rattle.cover_run.specs.Replaying.{IsWitnessText, HasWitnessFault, HasWitness, IsMisfit, IsReplayOutput, replay_line}
 use Rattle.cover_run.specs.Seen.{DeskSeen, SinkSeen, HasText, Took}
-use Rattle.cover_run.specs.Stops.{status_of, settled_status}
-use Rattle.cover_run.specs.Words.{ReplayCall, Meaning, Replay}
+use Rattle.command_words.specs.Stops.{status_of, settled_status}
+use Rattle.command_words.specs.Words.{ReplayCall, Meaning, Replay}
 use Rattle.cover_run.proofs.GoalsPromised.{moved}
 use Rattle.cover_run.proofs.Promised.{told_long, not_ended, stopped_so}
 use Rattle.cover_run.proofs.SubjectPromised.{read_accepted}

@@ -7,17 +7,17 @@ use Rattle.aig_model.specs.declared.parts.Parts.{Parts}
 use Rattle.aig_eval.specs.Replay.{HasShape}
 use Rattle.wit_text.specs.WitnessText.{SpellsBit, SpellsBits, SpellsWitness, IsFirstFault as IsFirstInWitness}
 use Rattle.wit_text.specs.declared.witness.Witness.{Witness}
-use Rattle.cover_run.specs.declared.stop.File.TheVariants as files
-use Rattle.cover_run.specs.declared.stop.Refusal.TheVariants as refusals
-use Rattle.cover_run.specs.declared.stop.Stop.{Stop}
-use Rattle.cover_run.specs.declared.stop.Stop.TheVariants as stops
+use Rattle.command_words.specs.declared.stop.File.TheVariants as files
+use Rattle.command_words.specs.declared.stop.Refusal.TheVariants as refusals
+use Rattle.command_words.specs.declared.stop.Stop.{Stop}
+use Rattle.command_words.specs.declared.stop.Stop.TheVariants as stops
 use Rattle.cover_run.specs.Answer.{EarlyCause}
 use Rattle.cover_run.specs.Covering.{HasCircuit, HasSignals}
-use Rattle.cover_run.specs.Files.{limit_of}
+use Rattle.command_words.specs.Limits.{limit_of}
 use Rattle.cover_run.specs.Replaying.{HasWitness}
 use Rattle.cover_run.specs.Seen.{DeskSeen}
 use Rattle.cover_run.specs.Steps.{WitnessCause, MisfitCause}
-use Rattle.cover_run.specs.Words.{ReplayCall, Replay}
+use Rattle.command_words.specs.Words.{ReplayCall, Replay}
 
 -- each step is a line
 rows_many : (inputs : ℕ) (steps : List (List ℕ)) (rows : List (List Bool)) → AllZip (SpellsBits inputs) steps rows → length steps ≡ length rows

@@ -10,14 +10,14 @@ use Rattle.lrat_text.specs.declared.fault.LratKind.{LratKind}
 use Rattle.lrat_text.specs.declared.proof.LratStep.{LratStep}
 use Rattle.lrat_check.specs.declared.fault.ProofKind.{ProofKind}
 use Rattle.lrat_check.specs.FirstFault.{first_fault}
-use Rattle.cover_run.specs.declared.stop.CircuitKind.{CircuitKind}
+use Rattle.command_words.specs.declared.stop.CircuitKind.{CircuitKind}
 use Rattle.signal_list.specs.declared.fault.SigKind.{SigKind}
-use Rattle.cover_run.specs.declared.stop.File.TheVariants as files
-use Rattle.cover_run.specs.declared.stop.Measure.{Measure}
-use Rattle.cover_run.specs.declared.stop.Measure.TheVariants as measures
-use Rattle.cover_run.specs.declared.stop.Refusal.TheVariants as refusals
-use Rattle.cover_run.specs.declared.stop.Stop.{Stop}
-use Rattle.cover_run.specs.declared.stop.Stop.TheVariants as stops
+use Rattle.command_words.specs.declared.stop.File.TheVariants as files
+use Rattle.command_words.specs.declared.stop.Measure.{Measure}
+use Rattle.command_words.specs.declared.stop.Measure.TheVariants as measures
+use Rattle.command_words.specs.declared.stop.Refusal.TheVariants as refusals
+use Rattle.command_words.specs.declared.stop.Stop.{Stop}
+use Rattle.command_words.specs.declared.stop.Stop.TheVariants as stops
 use Rattle.cover_run.specs.Answer.{Cause, IsOutput}
 use Rattle.cover_run.specs.Checking.{formula_stop, HasFormula, HasProof, HasFormulaFault, HasProofFault, HasSomeFormula, IsLratOutput}
 use Rattle.cover_run.specs.Covering.{HasCircuit, HasSignals, IsTooMuch, HasSomeCircuit, RefusesCircuit, RefusesSignals, IsCoverOutput}
@@ -26,10 +26,10 @@ use Rattle.cover_run.specs.Files.{subject_of, IsTooLong}
 use Rattle.aig_model.specs.Replays.{Shows}
 use Rattle.wit_text.specs.declared.fault.WitKind.{WitKind}
 use Rattle.wit_text.specs.declared.witness.Witness.{Witness}
-use Rattle.cover_run.specs.declared.stop.Misfit.{Misfit}
+use Rattle.command_words.specs.declared.stop.Misfit.{Misfit}
 use Rattle.cover_run.specs.Replaying.{HasSomeSubject, HasWitness, HasWitnessFault, IsMisfit, IsReplayOutput}
 use Rattle.cover_run.specs.Seen.{DeskSeen, SinkSeen, HasText, HasFaulted, Failed}
-use Rattle.cover_run.specs.Words.{Subject, CoverCall, ReplayCall, LratCall, Meaning, Usage, Help, Version, Cover, Goals, Replay, Lrat}
+use Rattle.command_words.specs.Words.{Subject, CoverCall, ReplayCall, LratCall, Meaning, Usage, Help, Version, Cover, Goals, Replay, Lrat}
 
 -- a circuit and its signals aren't read
 pub data ReadStops (s : Subject) (d : DeskSeen) (stop : Stop) : Type 0 where

@@ -3,21 +3,21 @@ use Rattle.std.proofs.Common.{◌≡◌, ℕ, ◌<◌, ◌≤◌, List, length, 
 use Rattle.std.specs.Prelude.{◌⊎◌}
 use Rattle.aig_model.specs.declared.parts.Parts.{Parts}
 use Rattle.cover_run.specs.CircuitText.{SpellsCircuit, IsFirstFault as IsFirstInCircuit}
-use Rattle.cover_run.specs.declared.stop.CircuitKind.{CircuitKind}
+use Rattle.command_words.specs.declared.stop.CircuitKind.{CircuitKind}
 use Rattle.cover_run.proofs.CircuitTexts.{one-circuit, one-fault, no-fault}
 use Rattle.signal_list.specs.SignalText.{SpellsSignals, IsFirstFault as IsFirstInSignals}
 use Rattle.signal_list.specs.declared.fault.SigKind.{SigKind}
 use Rattle.signal_list.proofs.OneReading as signals_text
-use Rattle.cover_run.specs.declared.stop.File.TheVariants as files
-use Rattle.cover_run.specs.declared.stop.Stop.{Stop}
-use Rattle.cover_run.specs.declared.stop.Stop.TheVariants as stops
-use Rattle.cover_run.specs.declared.stop.Status.{Status}
+use Rattle.command_words.specs.declared.stop.File.TheVariants as files
+use Rattle.command_words.specs.declared.stop.Stop.{Stop}
+use Rattle.command_words.specs.declared.stop.Stop.TheVariants as stops
+use Rattle.command_words.specs.declared.stop.Status.{Status}
 use Rattle.cover_run.specs.Answer.{IsAnswer}
 use Rattle.cover_run.specs.Covering.{IsCircuitText, IsSignalsText, HasCircuitFault, HasSignalsFault, HasCircuit, HasSignals, HasSomeCircuit, RefusesCircuit, RefusesSignals}
-use Rattle.cover_run.specs.Files.{limit_of}
+use Rattle.command_words.specs.Limits.{limit_of}
 use Rattle.cover_run.specs.Promises.{IsTold, IsToldTooLong, BadCircuitComes, BadSignalsComes, LongCircuitComes, LongSignalsComes}
 use Rattle.cover_run.specs.Seen.{DeskSeen, SinkSeen}
-use Rattle.cover_run.specs.Words.{Subject, Meaning}
+use Rattle.command_words.specs.Words.{Subject, Meaning}
 use Rattle.cover_run.proofs.WhereTold.{text-at}
 use Rattle.cover_run.proofs.Promised.{told_long, stopped_so}
 use Rattle.cover_run.proofs.Stopped.{ReadStops, circuit_unreadable, circuit_long, bad_circuit, signals_unreadable, signals_long, bad_signals, SubjectStops, subject_unread, subject_accepted, subject_memory, subject_stops, SubjectOutput, made_of, subject_output}

@@ -1,7 +1,6 @@
 -- A report of the zero walk's visits tells the truth.
-use Rattle.std.proofs.Common.{◌≡◌, ℕ, ◌+◌, ◌-◌, ◌^◌, List, [], ◌∷◌, length, cond, refl, sym, ap, subst, ◌∙◌, arith, Contains, Option, Some, None}
+use Rattle.std.proofs.Common.{◌≡◌, ℕ, ◌+◌, ◌^◌, List, [], length, refl, sym, ap, subst, ◌∙◌, arith, Contains, Option, Some, None}
 use Rattle.std.specs.Prelude.{slice_get, count_by, option_map}
-use Rattle.std.proofs.lemmas.List.Sums.{sum_by-cons}
 use Rattle.std.proofs.lemmas.Option.{none-some}
 use Rattle.aig_model.specs.declared.parts.Parts.{Parts}
 use Rattle.sim_walk.specs.declared.options.Options.{Options}
@@ -34,6 +33,7 @@ bare_bounds r g bare = rw (bare.seeds, bare.spents) refl
 -- the bounds that an open goal's block tells
 abbrev open_bounds : GoalBlock → Bounds
 open_bounds (blocks.Reached n w) = record { depth = None; hops = []; strength = None }
+open_bounds (blocks.Unreachable n inv proof) = record { depth = None; hops = []; strength = None }
 open_bounds (blocks.Open depth hops strength) = record { depth = depth; hops = hops; strength = strength }
 
 not_asked : (c : Parts) (sig : List ℕ) (r : Report) (vs : List Visit) (g : ℕ) → AreZeroVisits c sig r.options.length vs → (Contains (goals_of vs) g → ⊥) → IsBare r
@@ -59,23 +59,12 @@ block_tells c sig r vs g (blocks.Reached n w) walked posts bare h =
       visit_shows c sig r.options.length h.visit.lane h.visit.step g w h.trace
           (subst (λ (x : ℕ). IsVisited c sig (zero_lanes c) r.options.length h.visit.lane h.visit.step x) h.goal_of_visit visited),
     )
+block_tells c sig r vs g (blocks.Unreachable n inv proof) walked posts bare h = h
 block_tells c sig r vs g (blocks.Open depth hops strength) walked posts bare h = record {
   pending = ap (option_map (λ (e : Entry). e.kind)) (ap (λ (es : List Entry). first_entry es g) posts ∙ no_post 0 vs g h.0);
   bounds = ap open_bounds h.1 ∙ sym (bare_bounds r g bare);
   not_asked = not_asked c sig r vs g walked h.0 bare;
 }
-
--- each block is reached or open
-one_kind : (b : GoalBlock) → cond (is_reached b) 1 0 + cond (is_open b) 1 0 ≡ 1
-one_kind (blocks.Reached n w) = refl
-one_kind (blocks.Open depth hops strength) = refl
-
-counts_join : (bs : List GoalBlock) → count_by is_reached bs + count_by is_open bs ≡ length bs
-counts_join [] = refl
-counts_join (b ∷ bs) = omega (arith, counts_join bs, one_kind b, sum_by-cons (λ x. cond (is_reached x) 1 0) b bs, sum_by-cons (λ x. cond (is_open x) 1 0) b bs)
-
-pub open_are : (bs : List GoalBlock) (count reached : ℕ) → length bs ≡ count → reached ≡ count_by is_reached bs → count - reached ≡ count_by is_open bs
-open_are bs count reached size e = omega (arith, counts_join bs)
 
 pub report_tells : (c : Parts) (sig : List ℕ) (o : Options) (vs : List Visit) (blocks : List GoalBlock) (r : Report) → AreZeroVisits c sig o.length vs
     → AreBlocksFrom c vs (2 ^ length sig) blocks → Holds c sig o (posts_of vs) blocks r → Tells c sig o r
@@ -104,4 +93,5 @@ report_tells c sig o vs blocks r walked made h =
 -- a report that tells the truth settles what was asked for
 pub settles_asked : (c : Parts) (sig : List ℕ) (o : Options) (r : Report) → Tells c sig o r → SettlesAsked c sig r
 settles_asked c sig o r tells goal (blocks.Reached n witness) at asked = refl
+settles_asked c sig o r tells goal (blocks.Unreachable n inv proof) at asked = refl
 settles_asked c sig o r tells goal (blocks.Open depth hops strength) at asked = absurd ((tells.goals goal (blocks.Open depth hops strength) at).not_asked asked)

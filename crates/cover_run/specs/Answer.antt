@@ -1,25 +1,25 @@
 -- How a run ends, and why.
 use Rattle.std.specs.Prelude.{◌≡◌, ◌≢◌, ◌⊎◌, ℕ, Bool, true, List, IsSomeAnd}
 use Rattle.run_io.specs.Sink.{GrewByPart}
-use Rattle.cover_run.specs.declared.stop.CircuitKind.{CircuitKind}
+use Rattle.command_words.specs.declared.stop.CircuitKind.{CircuitKind}
 use Rattle.signal_list.specs.declared.fault.SigKind.{SigKind}
-use Rattle.cover_run.specs.declared.stop.File.{File}
-use Rattle.cover_run.specs.declared.stop.File.TheVariants as files
-use Rattle.cover_run.specs.declared.stop.Measure.{Measure}
-use Rattle.cover_run.specs.declared.stop.Measure.TheVariants as measures
-use Rattle.cover_run.specs.declared.stop.Refusal.{Refusal}
-use Rattle.cover_run.specs.declared.stop.Stop.{Stop}
-use Rattle.cover_run.specs.declared.stop.Stop.TheVariants as stops
-use Rattle.cover_run.specs.declared.stop.Status.{Status}
-use Rattle.cover_run.specs.About.{help_text, version_text}
+use Rattle.command_words.specs.declared.stop.File.{File}
+use Rattle.command_words.specs.declared.stop.File.TheVariants as files
+use Rattle.command_words.specs.declared.stop.Measure.{Measure}
+use Rattle.command_words.specs.declared.stop.Measure.TheVariants as measures
+use Rattle.command_words.specs.declared.stop.Refusal.{Refusal}
+use Rattle.command_words.specs.declared.stop.Stop.{Stop}
+use Rattle.command_words.specs.declared.stop.Stop.TheVariants as stops
+use Rattle.command_words.specs.declared.stop.Status.{Status}
+use Rattle.command_words.specs.About.{help_text, version_text}
 use Rattle.cover_run.specs.Checking.{HasSomeFormula, HasLargeFormula, Refuses, IsLratOutput}
 use Rattle.cover_run.specs.Covering.{HasSomeCircuit, RefusesCircuit, RefusesSignals, HasTooMuch, IsCoverOutput}
 use Rattle.cover_run.specs.Exporting.{HasTooManyGoals, IsGoalsOutput}
 use Rattle.cover_run.specs.Files.{subject_of, files_of, name_of, IsTooLong, IsAllRead, HasRead}
 use Rattle.cover_run.specs.Replaying.{HasSomeSubject, RefusesReplay, IsReplayOutput}
 use Rattle.cover_run.specs.Seen.{DeskSeen, SinkSeen, HasFaulted, Failed, HasSameCounts, Took, TookWhatItCould}
-use Rattle.cover_run.specs.Stops.{status_of, settled_status, line_of}
-use Rattle.cover_run.specs.Words.{Meaning, Usage, Help, Version, Cover, Goals, Replay, Lrat}
+use Rattle.command_words.specs.Stops.{status_of, settled_status, line_of}
+use Rattle.command_words.specs.Words.{Meaning, Usage, Help, Version, Cover, Goals, Replay, Lrat}
 
 -- ---- the output of a command
 -- these bytes are the whole output, and this says whether it leaves nothing open

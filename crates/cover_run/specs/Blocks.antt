@@ -19,9 +19,10 @@ pub record IsVisitedBy (c : Parts) (vs : List Visit) (goal n : ℕ) (witness : T
   pub goal_of_visit : visit.goal ≡ goal
   pub trace : IsZeroTrace c visit.step witness
 
--- the block of a goal, reached where it is visited and open without bounds where it isn't
+-- the block of a goal, reached where it is visited and open without bounds where it isn't; none is unreachable
 abbrev pub IsBlockFrom : Parts → List Visit → ℕ → GoalBlock → Type 0
 IsBlockFrom c vs goal (blocks.Reached n witness) = IsVisitedBy c vs goal n witness
+IsBlockFrom c vs goal (blocks.Unreachable n inv proof) = ⊥
 IsBlockFrom c vs goal (blocks.Open depth hops strength) =
     (¬ Contains (goals_of vs) goal) × (blocks.Open depth hops strength ≡ open_block)
 

@@ -9,15 +9,15 @@ use Rattle.lrat_text.specs.declared.fault.LratKind.{LratKind}
 use Rattle.lrat_text.specs.declared.proof.LratStep.{LratStep}
 use Rattle.lrat_text.specs.Accepted.{Accepted}
 use Rattle.lrat_check.specs.FirstFault.{first_fault}
-use Rattle.cover_run.specs.declared.stop.File.TheVariants as files
-use Rattle.cover_run.specs.declared.stop.Measure.TheVariants as measures
-use Rattle.cover_run.specs.declared.stop.Refusal.{Refusal}
-use Rattle.cover_run.specs.declared.stop.Refusal.TheVariants as refusals
-use Rattle.cover_run.specs.declared.stop.Stop.{Stop}
-use Rattle.cover_run.specs.declared.stop.Stop.TheVariants as stops
-use Rattle.cover_run.specs.Files.{limit_of}
+use Rattle.command_words.specs.declared.stop.File.TheVariants as files
+use Rattle.command_words.specs.declared.stop.Measure.TheVariants as measures
+use Rattle.command_words.specs.declared.stop.Refusal.{Refusal}
+use Rattle.command_words.specs.declared.stop.Refusal.TheVariants as refusals
+use Rattle.command_words.specs.declared.stop.Stop.{Stop}
+use Rattle.command_words.specs.declared.stop.Stop.TheVariants as stops
+use Rattle.command_words.specs.Limits.{limit_of}
 use Rattle.cover_run.specs.Seen.{DeskSeen, HasText}
-use Rattle.cover_run.specs.Words.{LratCall}
+use Rattle.command_words.specs.Words.{LratCall}
 
 -- a text within its limit that spells the formula, and one that spells the proof
 pub record IsFormulaText (f : CnfFormula) (t : List ℕ) : Type 0 where

@@ -4,8 +4,8 @@ use Rattle.std.specs.List.{starts_with}
 use Rattle.aig_model.specs.declared.parts.Parts.{Parts}
 use Rattle.aig_ascii.specs.Aag as aag
 use Rattle.aig_binary.specs.Aig as aig
-use Rattle.cover_run.specs.declared.stop.CircuitKind.{CircuitKind}
-use Rattle.cover_run.specs.declared.stop.CircuitKind.TheVariants as kinds
+use Rattle.command_words.specs.declared.stop.CircuitKind.{CircuitKind}
+use Rattle.command_words.specs.declared.stop.CircuitKind.TheVariants as kinds
 
 abbrev pub is_binary : List ℕ → Bool
 is_binary t = starts_with nat_eq t (codes "aig ")

@@ -5,11 +5,11 @@ use Rattle.aig_model.specs.declared.parts.Parts.{Parts}
 use Rattle.aig_ascii.specs.CircuitText.{IsTextOf}
 use Rattle.aig_ascii.specs.RoundTrip.{ReadsBack}
 use Rattle.goal_circuit.specs.GoalCircuit.{goal_parts}
-use Rattle.cover_run.specs.declared.stop.Measure.{Measure}
-use Rattle.cover_run.specs.declared.stop.Measure.TheVariants as measures
+use Rattle.command_words.specs.declared.stop.Measure.{Measure}
+use Rattle.command_words.specs.declared.stop.Measure.TheVariants as measures
 use Rattle.cover_run.specs.Covering.{HasCircuit, HasSignals}
 use Rattle.cover_run.specs.Seen.{DeskSeen}
-use Rattle.cover_run.specs.Words.{Subject}
+use Rattle.command_words.specs.Words.{Subject}
 
 -- the goal circuit would have more variables than a circuit may have
 abbrev pub IsTooManyGoals : Parts → List ℕ → Type 0

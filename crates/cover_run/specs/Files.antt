@@ -1,12 +1,13 @@
 -- The files of the commands.
 use Rattle.std.specs.Prelude.{◌≡◌, ◌⊎◌, ℕ, ◌+◌, ◌<◌, ◌≤◌, List, [], ◌∷◌, ◌++◌, length, Option, Some, None, IfSome}
 use Rattle.run_io.specs.Desk.{FileGiven, HasSameFaults}
-use Rattle.cover_run.specs.declared.stop.File.{File}
-use Rattle.cover_run.specs.declared.stop.File.TheVariants as files
-use Rattle.cover_run.specs.declared.stop.Stop.{Stop}
-use Rattle.cover_run.specs.declared.stop.Stop.TheVariants as stops
+use Rattle.command_words.specs.declared.stop.File.{File}
+use Rattle.command_words.specs.declared.stop.File.TheVariants as files
+use Rattle.command_words.specs.declared.stop.Stop.{Stop}
+use Rattle.command_words.specs.declared.stop.Stop.TheVariants as stops
+use Rattle.command_words.specs.Limits.{limit_of}
 use Rattle.cover_run.specs.Seen.{DeskSeen, Gave}
-use Rattle.cover_run.specs.Words.{Subject, Meaning, Cover, Goals, Replay, Lrat}
+use Rattle.command_words.specs.Words.{Subject, Meaning, Cover, Goals, Replay, Lrat}
 
 -- the circuit's and the signals' file of a command that reads them
 abbrev pub subject_of : Meaning → Option Subject
@@ -44,14 +45,6 @@ name_of (Replay call) f = subject_name call.subject f
 name_of (Lrat call) files.Formula = Some call.formula
 name_of (Lrat call) files.Proof = Some call.proof
 name_of command f = None
-
--- the greatest length of a file, in bytes
-abbrev pub limit_of : File → ℕ
-limit_of files.Circuit = 67108864
-limit_of files.Signals = 65536
-limit_of files.Formula = 268435456
-limit_of files.Proof = 268435456
-limit_of files.Witness = 67108864
 
 -- ---- what was given of the files, one after the other
 -- the first of these files were started, each once and in this order, and each was given within its limit

@@ -1,10 +1,8 @@
-pub mod About
 pub mod Answer
 pub mod Blocks
 pub mod Bounds
 pub mod Checking
 pub mod CircuitText
-pub mod Commands
 pub mod Covering
 pub mod Exporting
 pub mod Files
@@ -14,8 +12,5 @@ pub mod Promises
 pub mod Replaying
 pub mod Report
 pub mod Seen
-pub mod Settings
 pub mod Steps
-pub mod Stops
 pub mod Summed
-pub mod Words

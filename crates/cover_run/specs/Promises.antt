@@ -8,39 +8,40 @@ use Rattle.lrat_text.specs.Lrat.{SpellsProof, IsFirstFault as IsFirstInProof}
 use Rattle.lrat_text.specs.declared.fault.LratKind.{LratKind}
 use Rattle.lrat_text.specs.declared.proof.LratStep.{LratStep}
 use Rattle.cover_run.specs.CircuitText.{SpellsCircuit, IsFirstFault as IsFirstInCircuit}
-use Rattle.cover_run.specs.declared.stop.CircuitKind.{CircuitKind}
+use Rattle.command_words.specs.declared.stop.CircuitKind.{CircuitKind}
 use Rattle.signal_list.specs.SignalText.{SpellsSignals, IsFirstFault as IsFirstInSignals}
 use Rattle.signal_list.specs.declared.fault.SigKind.{SigKind}
 use Rattle.lrat_text.specs.Accepted.{Accepted}
 use Rattle.lrat_check.specs.FirstFault.{first_fault}
 use Rattle.lrat_check.specs.declared.fault.ProofKind.{ProofKind}
-use Rattle.cover_run.specs.declared.stop.File.{File}
-use Rattle.cover_run.specs.declared.stop.File.TheVariants as files
-use Rattle.cover_run.specs.declared.stop.Measure.{Measure}
-use Rattle.cover_run.specs.declared.stop.Measure.TheVariants as measures
-use Rattle.cover_run.specs.declared.stop.Refusal.{Refusal}
-use Rattle.cover_run.specs.declared.stop.Refusal.TheVariants as refusals
-use Rattle.cover_run.specs.declared.stop.Stop.{Stop}
-use Rattle.cover_run.specs.declared.stop.Stop.TheVariants as stops
-use Rattle.cover_run.specs.declared.stop.Status.{Status}
-use Rattle.cover_run.specs.declared.stop.Status.TheVariants as statuses
+use Rattle.command_words.specs.declared.stop.File.{File}
+use Rattle.command_words.specs.declared.stop.File.TheVariants as files
+use Rattle.command_words.specs.declared.stop.Measure.{Measure}
+use Rattle.command_words.specs.declared.stop.Measure.TheVariants as measures
+use Rattle.command_words.specs.declared.stop.Refusal.{Refusal}
+use Rattle.command_words.specs.declared.stop.Refusal.TheVariants as refusals
+use Rattle.command_words.specs.declared.stop.Stop.{Stop}
+use Rattle.command_words.specs.declared.stop.Stop.TheVariants as stops
+use Rattle.command_words.specs.declared.stop.Status.{Status}
+use Rattle.command_words.specs.declared.stop.Status.TheVariants as statuses
 use Rattle.run_io.specs.Desk.{HasSameFaults}
 use Rattle.cover_run.specs.Answer.{Cause, HasBadCircuit, HasBadSignals, IsTooLarge, IsRefused, IsOutput, IsPartial}
-use Rattle.cover_run.specs.About.{help_text, version_text}
+use Rattle.command_words.specs.About.{help_text, version_text}
 use Rattle.cover_run.specs.Checking.{formula_stop}
 use Rattle.cover_run.specs.Covering.{HasRoom, IsTooMuch}
 use Rattle.cover_run.specs.Exporting.{IsTooManyGoals, IsGoalText}
-use Rattle.cover_run.specs.Files.{subject_of, files_of, name_of, limit_of, IsTooLong, IsWithin, HasFailed, IsPast, IsAllRead}
+use Rattle.command_words.specs.Limits.{limit_of}
+use Rattle.cover_run.specs.Files.{subject_of, files_of, name_of, IsTooLong, IsWithin, HasFailed, IsPast, IsAllRead}
 use Rattle.aig_model.specs.Replays.{Shows}
 use Rattle.wit_text.specs.WitnessText.{SpellsWitness, IsFirstFault as IsFirstInWitness}
 use Rattle.wit_text.specs.declared.fault.WitKind.{WitKind}
 use Rattle.wit_text.specs.declared.witness.Witness.{Witness}
-use Rattle.cover_run.specs.declared.stop.Misfit.{Misfit}
+use Rattle.command_words.specs.declared.stop.Misfit.{Misfit}
 use Rattle.cover_run.specs.Replaying.{IsWitnessText, IsMisfit, replay_line}
 use Rattle.cover_run.specs.Report.{IsReport, SettlesAsked}
 use Rattle.cover_run.specs.Seen.{DeskSeen, SinkSeen, HasFaulted, Failed, HasSameCounts, Took, TookWhatItCould}
-use Rattle.cover_run.specs.Stops.{line_of, status_of, settled_status}
-use Rattle.cover_run.specs.Words.{Subject, CoverCall, ReplayCall, LratCall, Meaning, Help, Version, Cover, Goals, Replay, Lrat}
+use Rattle.command_words.specs.Stops.{line_of, status_of, settled_status}
+use Rattle.command_words.specs.Words.{Subject, CoverCall, ReplayCall, LratCall, Meaning, Help, Version, Cover, Goals, Replay, Lrat}
 
 -- ---- premises
 -- the desk tells this text of the file's name, within the file's limit, and no fault of the name was counted

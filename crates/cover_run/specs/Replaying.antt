@@ -8,15 +8,15 @@ use Rattle.aig_eval.specs.Replay.{StartsWrong, FailsAt}
 use Rattle.wit_text.specs.WitnessText.{SpellsWitness, IsFirstFault as IsFirstInWitness}
 use Rattle.wit_text.specs.declared.fault.WitKind.{WitKind}
 use Rattle.wit_text.specs.declared.witness.Witness.{Witness}
-use Rattle.cover_run.specs.declared.stop.File.TheVariants as files
-use Rattle.cover_run.specs.declared.stop.Misfit.{Misfit}
-use Rattle.cover_run.specs.declared.stop.Misfit.TheVariants as misfits
-use Rattle.cover_run.specs.declared.stop.Refusal.{Refusal}
-use Rattle.cover_run.specs.declared.stop.Refusal.TheVariants as refusals
+use Rattle.command_words.specs.declared.stop.File.TheVariants as files
+use Rattle.command_words.specs.declared.stop.Misfit.{Misfit}
+use Rattle.command_words.specs.declared.stop.Misfit.TheVariants as misfits
+use Rattle.command_words.specs.declared.stop.Refusal.{Refusal}
+use Rattle.command_words.specs.declared.stop.Refusal.TheVariants as refusals
 use Rattle.cover_run.specs.Covering.{HasCircuit, HasSignals}
-use Rattle.cover_run.specs.Files.{limit_of}
+use Rattle.command_words.specs.Limits.{limit_of}
 use Rattle.cover_run.specs.Seen.{DeskSeen, HasText}
-use Rattle.cover_run.specs.Words.{Subject, ReplayCall}
+use Rattle.command_words.specs.Words.{Subject, ReplayCall}
 
 -- a text within its limit that spells the witness, for the circuit's latches and inputs
 pub record IsWitnessText (c : Parts) (w : Witness) (t : List ℕ) : Type 0 where

@@ -43,16 +43,20 @@ pub record IsLeftOpen (c : Parts) (sig : List ℕ) (r : Report) (goal : ℕ) (b 
   pub bounds : b ≡ bounds_of r goal
   pub not_asked : ¬ Asked c sig r goal
 
+-- (No engine proves yet that a goal is unreachable, so no block says so.)
 abbrev pub IsBlock : Parts → List ℕ → Report → ℕ → GoalBlock → Type 0
 IsBlock c sig r goal (blocks.Reached n witness) = IsFirstReached r.history goal n × Shows c sig witness goal
+IsBlock c sig r goal (blocks.Unreachable n inv proof) = ⊥
 IsBlock c sig r goal (blocks.Open depth hops strength) = IsLeftOpen c sig r goal (record { depth = depth; hops = hops; strength = strength })
 
 abbrev pub is_reached : GoalBlock → Bool
 is_reached (blocks.Reached n witness) = true
+is_reached (blocks.Unreachable n inv proof) = false
 is_reached (blocks.Open depth hops strength) = false
 
 abbrev pub is_open : GoalBlock → Bool
 is_open (blocks.Reached n witness) = false
+is_open (blocks.Unreachable n inv proof) = false
 is_open (blocks.Open depth hops strength) = true
 
 -- ---- the sections of what no engine makes yet: each is empty

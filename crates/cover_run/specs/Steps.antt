@@ -10,12 +10,12 @@ use Rattle.cnf_base.specs.declared.fault.DimacsKind.TheVariants as dimacs
 use Rattle.lrat_text.specs.Lrat.{IsFirstFault as IsFirstInProof}
 use Rattle.lrat_text.specs.declared.proof.LratStep.{LratStep}
 use Rattle.lrat_check.specs.FirstFault.{first_fault}
-use Rattle.cover_run.specs.declared.stop.File.{File}
-use Rattle.cover_run.specs.declared.stop.File.TheVariants as files
-use Rattle.cover_run.specs.declared.stop.Measure.TheVariants as measures
-use Rattle.cover_run.specs.declared.stop.Refusal.TheVariants as refusals
-use Rattle.cover_run.specs.declared.stop.Stop.{Stop}
-use Rattle.cover_run.specs.declared.stop.Stop.TheVariants as stops
+use Rattle.command_words.specs.declared.stop.File.{File}
+use Rattle.command_words.specs.declared.stop.File.TheVariants as files
+use Rattle.command_words.specs.declared.stop.Measure.TheVariants as measures
+use Rattle.command_words.specs.declared.stop.Refusal.TheVariants as refusals
+use Rattle.command_words.specs.declared.stop.Stop.{Stop}
+use Rattle.command_words.specs.declared.stop.Stop.TheVariants as stops
 use Rattle.cover_run.specs.CircuitText.{is_binary, IsFirstFaultIn}
 use Rattle.cover_run.specs.Covering.{HasSomeCircuit, RefusesCircuit, RefusesSignals, IsTooMuch}
 use Rattle.cover_run.specs.Exporting.{IsTooManyGoals}
@@ -24,7 +24,7 @@ use Rattle.wit_text.specs.WitnessText.{IsFirstFault as IsFirstInWitness}
 use Rattle.wit_text.specs.declared.witness.Witness.{Witness}
 use Rattle.cover_run.specs.Replaying.{IsMisfit}
 use Rattle.cover_run.specs.Seen.{DeskSeen, HasFaulted, Gave}
-use Rattle.cover_run.specs.Words.{Subject}
+use Rattle.command_words.specs.Words.{Subject}
 
 -- why one file isn't read: its faults rose, or it is too long
 abbrev pub PartCause : DeskSeen → File → List ℕ → Stop → Type 0

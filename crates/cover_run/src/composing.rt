@@ -4,7 +4,7 @@ ghost use Rattle.std.specs.Prelude.{◌≡◌, ◌^◌, length, replicate, count
 ghost use Rattle.sim_walk.specs.Zero.{AreZeroVisits};
 ghost use Rattle.cover_run.specs.Posts.{posts_of};
 ghost use Rattle.cover_run.specs.Blocks.{open_block, AreBlocksFrom};
-ghost use Rattle.cover_run.specs.Report.{Tells, is_reached};
+ghost use Rattle.cover_run.specs.Report.{Tells, is_reached, is_open};
 ghost use Rattle.report_text.specs.Form.{FitsOptions, HasForm};
 ghost use Rattle.cover_run.specs.Summed.{Holds};
 ghost use Rattle.aig_model.specs.SignalList.{IsSignals};
@@ -78,7 +78,16 @@ fn is_reached(block: &GoalBlock) -> bool
 {
     match block {
         GoalBlock::Reached { .. } => true,
-        GoalBlock::Open { .. } => false,
+        GoalBlock::Unreachable { .. } | GoalBlock::Open { .. } => false,
+    }
+}
+
+fn is_open(block: &GoalBlock) -> bool
+    ensures { result ≡ is_open block.now }
+{
+    match block {
+        GoalBlock::Open { .. } => true,
+        GoalBlock::Reached { .. } | GoalBlock::Unreachable { .. } => false,
     }
 }
 
@@ -89,6 +98,16 @@ fn reached_among(blocks: &GoalBlocks) -> usize
         .as_slice()
         .iter()
         .filter(|block| is_reached(block))
+        .count()
+}
+
+fn open_among(blocks: &GoalBlocks) -> usize
+    ensures { result ≡ count_by is_open blocks.now }
+{
+    blocks
+        .as_slice()
+        .iter()
+        .filter(|block| is_open(block))
         .count()
 }
 
@@ -114,6 +133,7 @@ fn report_of(
     circuit.is_well_formed();
     let lits = signals.lits();
     let reached = reached_among(&goals) as u32;
+    let unsettled = open_among(&goals) as u32;
     Report {
         inputs: circuit.inputs().len() as u32,
         latches: circuit.latches().len() as u32,
@@ -127,7 +147,7 @@ fn report_of(
         refutes: Blocks::new(alloc),
         reached,
         unreachable: 0,
-        unsettled: signals.goals() - reached,
+        unsettled,
     }
 }
 

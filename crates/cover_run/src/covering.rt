@@ -3,21 +3,20 @@
 ghost use Rattle.std.specs.Prelude.{◌≡◌, false, IfOk, IfErr, OnOk, nat_eq};
 ghost use Rattle.run_io.specs.Desk.{HasSameTexts};
 ghost use Rattle.cover_run.specs.Answer.{EarlyCause};
-ghost use Rattle.cover_run.specs.Commands.{cover_call};
+ghost use Rattle.command_words.specs.Commands.{cover_call};
 ghost use Rattle.cover_run.specs.Covering.{HasRoom, IsCoverOutput};
 ghost use Rattle.cover_run.specs.Files.{files_of, IsAllRead, HasRead};
 ghost use Rattle.cover_run.specs.Report.{IsReport};
 ghost use Rattle.cover_run.specs.Seen.{seen};
 ghost use Rattle.cover_run.specs.Steps.{RoomCause};
-ghost use Rattle.cover_run.specs.Stops.{is_of_devices};
-ghost use Rattle.cover_run.specs.Words.{Cover as CoverMeaning};
+ghost use Rattle.command_words.specs.Stops.{is_of_devices};
+ghost use Rattle.command_words.specs.Words.{Cover as CoverMeaning};
 
-use crate::command::Cover;
 use crate::composing::compose;
 use crate::output::Output;
-use crate::stop::{Measure, Stop};
 use crate::subject::read_subject;
 use aig_model::{Circuit, Signals};
+use command_words::{Cover, Measure, Stop};
 use ketch_base::OutOfMemory;
 use report_text::text_of;
 use run_io::Desk;

@@ -2,11 +2,12 @@
 
 ghost use Rattle.std.specs.Prelude.{◌≡◌, ◌≤◌, [], ◌∷◌, IfOk, IfErr, IfSome, OnOk, length};
 ghost use Rattle.run_io.specs.Desk.{HasSameTexts, CountsFaults};
-ghost use Rattle.cover_run.specs.Files.{HasRead, limit_of};
+ghost use Rattle.command_words.specs.Limits.{limit_of};
+ghost use Rattle.cover_run.specs.Files.{HasRead};
 ghost use Rattle.cover_run.specs.Seen.{seen};
 ghost use Rattle.cover_run.specs.Steps.{PartCause, IsPartRead};
 
-use crate::stop::{File, Stop, limit_of};
+use command_words::{File, Stop, limit_of};
 use run_io::{Desk, ReadFault, read_file};
 use std::alloc::Global;
 

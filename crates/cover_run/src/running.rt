@@ -3,23 +3,22 @@
 ghost use Rattle.std.specs.Prelude.{◌≡◌, ◌↔◌, IfOk, IfErr, OnOk, true, false};
 ghost use Rattle.run_io.specs.Desk.{HasSameTexts};
 ghost use Rattle.cover_run.specs.Answer.{EarlyCause, IsOutput, IsAnswer, IsStopped, IsWhole};
-ghost use Rattle.cover_run.specs.Commands.{meaning_of};
+ghost use Rattle.command_words.specs.Commands.{meaning_of};
 ghost use Rattle.cover_run.specs.Files.{files_of, IsAllRead, HasRead};
 ghost use Rattle.cover_run.specs.Promises.{WrittenCause, Headline, Completeness, AcceptedCause, AcceptedComes, PrintedCause, PrintedComes, HasEnded, IsEarly, ReadFaultCause, NoFault, BadCircuitCause, BadCircuitComes, BadSignalsCause, BadSignalsComes, LimitCause, WithinLimits, AllRead, TooMuchComes, ExportedCause, ExportedComes, ManyGoalsComes, ReplayedCause, ReplayedComes, LongWitnessComes, BadWitnessComes, MisfitComes, LongCircuitComes, LongSignalsComes, LongFormulaComes, LongProofComes, RefusedCause, BadFormulaComes, BadProofComes, BadStepComes, PrefixAfterFault, SaysLine};
 ghost use Rattle.cover_run.specs.Seen.{seen, Failed, TookWhatItCould};
-ghost use Rattle.cover_run.specs.Stops.{is_late};
-ghost use Rattle.cover_run.specs.Words.{meaning, texts, Usage};
+ghost use Rattle.command_words.specs.Stops.{is_late};
+ghost use Rattle.command_words.specs.Words.{meaning, texts, Usage};
 
-use crate::about::{help_text, version_text};
 use crate::checking::check;
-use crate::command::{Command, command_of};
 use crate::covering::cover;
 use crate::exporting::export;
 use crate::gate::Gate;
-use crate::line::line_of;
 use crate::output::Output;
 use crate::replaying::replayed;
-use crate::stop::{Status, Stop, settled_status, status_of};
+use command_words::{
+    Command, Status, Stop, command_of, help_text, line_of, settled_status, status_of, version_text,
+};
 use run_io::{Desk, Sink, write_all};
 use std::alloc::Global;
 use std::marker::Sync;

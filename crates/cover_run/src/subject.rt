@@ -4,19 +4,18 @@ ghost use Rattle.std.specs.Prelude.{◌≡◌, ◌≤◌, true, false, IfOk, IfE
 ghost use Rattle.run_io.specs.Desk.{HasSameTexts};
 ghost use Rattle.cover_run.specs.CircuitText.{is_binary, SpellsIn, SpellsCircuit};
 ghost use Rattle.signal_list.specs.SignalText.{SpellsSignals};
-ghost use Rattle.cover_run.specs.Commands.{subject_named};
+ghost use Rattle.command_words.specs.Commands.{subject_named};
 ghost use Rattle.cover_run.specs.Covering.{HasCircuit, HasSignals};
 ghost use Rattle.cover_run.specs.Files.{subject_files, IsAllRead, HasRead};
 ghost use Rattle.cover_run.specs.Seen.{seen};
 ghost use Rattle.cover_run.specs.Steps.{CircuitCause, CircuitCauseIn, SignalsCause, SubjectCause};
-ghost use Rattle.cover_run.specs.Stops.{is_of_devices};
+ghost use Rattle.command_words.specs.Stops.{is_of_devices};
 
-use crate::command::Subject;
 use crate::part::read_part;
-use crate::stop::{CircuitKind, File, Stop};
 use aig_ascii::{AagFault, read_aag};
 use aig_binary::{AigFault, read_aig};
 use aig_model::{Circuit, Signals};
+use command_words::{CircuitKind, File, Stop, Subject};
 use run_io::Desk;
 use signal_list::{SigFault, read_signals};
 use std::alloc::Global;

@@ -3,16 +3,18 @@ use Rattle.std.proofs.Common.{◌≡◌, ℕ, ◌<◌, ◌^◌, List, [], ◌∷
 use Rattle.std.specs.Prelude.{codes, decimal, IfSome}
 use Rattle.std.specs.List.{AllByRecursion}
 use Rattle.std.proofs.lemmas.Fmt.{decimal_injective}
+use Rattle.lrat_text.specs.declared.proof.LratStep.{LratStep}
 use Rattle.report_text.specs.declared.report.HopBound.{HopBound}
 use Rattle.report_text.specs.declared.report.HopBound.TheVariants.{To, Nothing, NoSeed}
 use Rattle.report_text.specs.declared.report.GoalBlock.{GoalBlock}
-use Rattle.report_text.specs.declared.report.GoalBlock.TheVariants.{Reached, Open}
-use Rattle.report_text.specs.Form.{FitsHop, FitsBlock}
-use Rattle.report_text.specs.Text.{Word, Line, bound_text, hop_text, open_words, witness_lines, block_lines, goals_lines}
+use Rattle.report_text.specs.declared.report.GoalBlock.TheVariants.{Reached, Unreachable, Open}
+use Rattle.report_text.specs.Form.{IsCounted, FitsHop, FitsBlock, FitsUnreachable}
+use Rattle.report_text.specs.Text.{Word, Line, bound_text, hop_text, open_words, witness_lines, proof_lines, block_lines, goals_lines}
 use Rattle.report_text.proofs.Lines.{◌&◌, IsWord, IsLine, AreLines, word-from_test}
 use Rattle.report_text.proofs.Words.{decimal-is_word, decimal-no_letter}
-use Rattle.report_text.proofs.Pieces.{IsSpelling, IsCounted, all-append, section-is_spelling}
+use Rattle.report_text.proofs.Pieces.{IsSpelling, all-append, section-is_spelling}
 use Rattle.report_text.proofs.WitnessLines.{witness-is_spelling}
+use Rattle.report_text.proofs.ProofLines.{proof-is_spelling}
 
 -- ---- bounds
 abbrev FitsBound : Option ℕ → Type 0
@@ -80,13 +82,18 @@ open-is_line goal depth hops strength h d f s =
     word-from_test (codes "goal") refl & decimal-is_word goal h & word-from_test (codes "open") refl & word-from_test (codes "depth") refl & bound-is_word depth d & word-from_test (codes "hops") refl
     & all-append IsWord (map hop_text hops) (codes "strength" ∷ bound_text strength ∷ []) (hops-are_words hops f) (word-from_test (codes "strength") refl & bound-is_word strength s & tt)
 
-block-plain : (inputs latches goal : ℕ) (b : GoalBlock) → goal < 2 ^ 64 → FitsBlock inputs latches b → AreLines (block_lines goal b)
+block-plain : (inputs latches goal : ℕ) (b : GoalBlock) → goal < 2 ^ 32 → FitsBlock inputs latches b → AreLines (block_lines goal b)
 unfolding block_lines
 block-plain inputs latches goal (Reached n witness) h f = (
-  word-from_test (codes "goal") refl & decimal-is_word goal h & word-from_test (codes "reached") refl & decimal-is_word n f.0 & tt,
-  (witness-is_spelling inputs latches goal h).plain witness f.1,
+  word-from_test (codes "goal") refl & decimal-is_word goal (omega arith) & word-from_test (codes "reached") refl & decimal-is_word n f.0 & tt,
+  (witness-is_spelling inputs latches goal (omega arith)).plain witness f.1,
 )
-block-plain inputs latches goal (Open depth hops strength) h f = (open-is_line goal depth hops strength h f.0 f.1 f.2, tt)
+block-plain inputs latches goal (Unreachable n inv proof) h f = (
+  word-from_test (codes "goal") refl & decimal-is_word goal (omega arith) & word-from_test (codes "unreachable") refl & decimal-is_word n f.number_fits & word-from_test (codes "inv") refl
+      & decimal-is_word inv (omega (arith, f.inv_fits)) & tt,
+  proof-is_spelling.plain proof f.proof,
+)
+block-plain inputs latches goal (Open depth hops strength) h f = (open-is_line goal depth hops strength (omega arith) f.depth_fits f.hops_fit f.strength_fits, tt)
 
 open-tells : (goal : ℕ) (d : Option ℕ) (hs : List HopBound) (s : Option ℕ) (e : Option ℕ) (ks : List HopBound) (t : Option ℕ) → FitsBound d → AllByRecursion FitsHop hs → FitsBound s
     → FitsBound e → AllByRecursion FitsHop ks → FitsBound t → open_words goal d hs s ≡ open_words goal e ks t → Open d hs s ≡ Open e ks t
@@ -106,26 +113,44 @@ open-tells goal d hs s e ks t fd fh fs fe fk ft same =
 verdict_byte : List Line → ℕ
 verdict_byte ls = get_or (get_or (get_or ls 0 []) 2 []) 0 0
 
-block-tells : (inputs latches goal : ℕ) (b c : GoalBlock) (x y : List Line) → goal < 2 ^ 64 → FitsBlock inputs latches b → FitsBlock inputs latches c → block_lines goal b ++ x ≡ block_lines goal c ++ y
+unreachable-tells : (goal m i n j : ℕ) (p q : List LratStep) (x y : List Line) → FitsUnreachable m i p → FitsUnreachable n j q
+    → block_lines goal (Unreachable m i p) ++ x ≡ block_lines goal (Unreachable n j q) ++ y → (Unreachable m i p ≡ Unreachable n j q) × (x ≡ y)
+unfolding block_lines
+unreachable-tells goal m i n j p q x y f g e =
+    let numbers : decimal m ≡ decimal n = cc in
+    let invs : decimal i ≡ decimal j = cc in
+    let tails : proof_lines p ++ x ≡ proof_lines q ++ y = cc in
+    let rest = proof-is_spelling.tells p q x y f.proof g.proof tails in
+    let number : m ≡ n = decimal_injective m n f.number_fits g.number_fits numbers in
+    let inv : i ≡ j = decimal_injective i j (omega (arith, f.inv_fits)) (omega (arith, g.inv_fits)) invs in
+    let proof : p ≡ q = rest.0 in
+    (cc, rest.1)
+
+block-tells : (inputs latches goal : ℕ) (b c : GoalBlock) (x y : List Line) → goal < 2 ^ 32 → FitsBlock inputs latches b → FitsBlock inputs latches c → block_lines goal b ++ x ≡ block_lines goal c ++ y
     → (b ≡ c) × (x ≡ y)
 unfolding block_lines open_words verdict_byte
 block-tells inputs latches goal (Reached m v) (Reached n w) x y h f g e =
     let numbers : decimal m ≡ decimal n = cc in
     let tails : witness_lines goal v ++ x ≡ witness_lines goal w ++ y = cc in
-    let rest = (witness-is_spelling inputs latches goal h).tells v w x y f.1 g.1 tails in
+    let rest = (witness-is_spelling inputs latches goal (omega arith)).tells v w x y f.1 g.1 tails in
     let number : m ≡ n = decimal_injective m n f.0 g.0 numbers in
     let witness : v ≡ w = rest.0 in
     (cc, rest.1)
+block-tells inputs latches goal (Reached m v) (Unreachable n j q) x y h f g e = absurd (omega (arith, ap verdict_byte e))
 block-tells inputs latches goal (Reached m v) (Open d hs s) x y h f g e = absurd (omega (arith, ap verdict_byte e))
+block-tells inputs latches goal (Unreachable m i p) (Reached n w) x y h f g e = absurd (omega (arith, ap verdict_byte e))
+block-tells inputs latches goal (Unreachable m i p) (Unreachable n j q) x y h f g e = unreachable-tells goal m i n j p q x y f g e
+block-tells inputs latches goal (Unreachable m i p) (Open d hs s) x y h f g e = absurd (omega (arith, ap verdict_byte e))
 block-tells inputs latches goal (Open d hs s) (Reached n w) x y h f g e = absurd (omega (arith, ap verdict_byte e))
+block-tells inputs latches goal (Open d hs s) (Unreachable n j q) x y h f g e = absurd (omega (arith, ap verdict_byte e))
 block-tells inputs latches goal (Open d hs s) (Open d' ks t) x y h f g e =
     let heads : open_words goal d hs s ≡ open_words goal d' ks t = cc in
     let tails : x ≡ y = cc in
-    (open-tells goal d hs s d' ks t f.0 f.1 f.2 g.0 g.1 g.2 heads, tails)
+    (open-tells goal d hs s d' ks t f.depth_fits f.hops_fit f.strength_fits g.depth_fits g.hops_fit g.strength_fits heads, tails)
+
+pub block-is_spelling : (inputs latches goal : ℕ) → goal < 2 ^ 32 → IsSpelling (FitsBlock inputs latches) (block_lines goal)
+block-is_spelling inputs latches goal h = record { plain = λ b f. block-plain inputs latches goal b h f; tells = λ b c x y f g e. block-tells inputs latches goal b c x y h f g e }
 
 pub goals-is_spelling : (inputs latches : ℕ) → IsSpelling (IsCounted (FitsBlock inputs latches)) goals_lines
 goals-is_spelling inputs latches =
-    section-is_spelling (FitsBlock inputs latches) (codes "goals") block_lines (word-from_test (codes "goals") refl) (λ goal h. record {
-      plain = λ b f. block-plain inputs latches goal b h f;
-      tells = λ b c x y f g e. block-tells inputs latches goal b c x y h f g e;
-    })
+    section-is_spelling (FitsBlock inputs latches) (codes "goals") block_lines (word-from_test (codes "goals") refl) (block-is_spelling inputs latches)

@@ -7,11 +7,11 @@ use Rattle.aig_model.specs.declared.parts.Kind.TheVariants as kinds
 use Rattle.board_core.specs.declared.entry.Source.{Source}
 use Rattle.board_core.specs.declared.entry.Source.TheVariants as sources
 use Rattle.board_core.specs.declared.entry.Entry.{Entry}
-use Rattle.report_text.specs.Form.{FitsSource, FitsEntry}
+use Rattle.report_text.specs.Form.{IsCounted, FitsSource, FitsEntry}
 use Rattle.report_text.specs.Text.{Word, kind_text, source_text, entry_words, history_lines}
 use Rattle.report_text.proofs.Lines.{◌&◌, IsPlain, IsWord, IsLine, word-from_test}
 use Rattle.report_text.proofs.Words.{decimal-is_word}
-use Rattle.report_text.proofs.Pieces.{IsSpelling, IsCounted, all-append, one_line, section-is_spelling}
+use Rattle.report_text.proofs.Pieces.{IsSpelling, all-append, one_line, section-is_spelling}
 
 kind-is_word : (k : Kind) → IsWord (kind_text k)
 unfolding kind_text
@@ -81,7 +81,7 @@ source-tells (sources.Hop b) t f g e = hop-tells b t f g e
 source-tells (sources.Again r) t f g e = again-tells r t f g e
 source-tells sources.Proved t f g e = proved-tells t e
 
-entry-is_line : (e : Entry) → FitsEntry e → IsLine (entry_words e)
+pub entry-is_line : (e : Entry) → FitsEntry e → IsLine (entry_words e)
 unfolding entry_words
 entry-is_line e f =
     decimal-is_word e.number f.number & decimal-is_word e.caller (omega (arith, f.caller)) & decimal-is_word e.goal (omega (arith, f.goal)) & kind-is_word e.kind & source-is_word e.source f.source
@@ -104,6 +104,8 @@ entry-tells d e f g same =
     let low : d.low ≡ e.low = decimal_injective d.low e.low f.low g.low lows in
     λ i. record { number = number i; caller = caller i; goal = goal i; kind = kind i; source = source i; low = low i }
 
+pub entry-is_spelling : IsSpelling FitsEntry (λ e. entry_words e ∷ [])
+entry-is_spelling = one_line FitsEntry entry_words entry-is_line entry-tells
+
 pub history-is_spelling : IsSpelling (IsCounted FitsEntry) history_lines
-history-is_spelling =
-    section-is_spelling FitsEntry (codes "history") (λ _ e. entry_words e ∷ []) (word-from_test (codes "history") refl) (λ n h. one_line FitsEntry entry_words entry-is_line entry-tells)
+history-is_spelling = section-is_spelling FitsEntry (codes "history") (λ _ e. entry_words e ∷ []) (word-from_test (codes "history") refl) (λ n h. entry-is_spelling)

@@ -1,9 +1,13 @@
+pub mod ClauseLines
 pub mod Determines
 pub mod GoalLines
 pub mod HeadLines
 pub mod HistoryLines
 pub mod Lines
 pub mod Pieces
+pub mod ProofLines
+pub mod QueryLines
+pub mod SeedLines
 pub mod WitnessLines
 pub mod Words
 pub mod Written

@@ -3,6 +3,7 @@ use Rattle.std.proofs.Common.{◌≡◌, ℕ, Bool, true, false, cond, List, [],
 use Rattle.std.specs.Prelude.{nat_eq, not, ◌||◌}
 use Rattle.std.specs.List.{AllByRecursion, list_all}
 use Rattle.std.proofs.lemmas.Bool.{and_parts}
+use Rattle.std.proofs.lemmas.List.{append_cancel_left}
 use Rattle.report_text.specs.Text.{Word, Line, line, text}
 
 -- neither a newline nor a space
@@ -67,6 +68,13 @@ lines_of-line (w ∷ v ∷ ws) bs p =
 lines_of-text : (ls : List Line) → AreLines ls → lines_of (text ls) ≡ ls
 lines_of-text [] p = refl
 lines_of-text (l ∷ ls) p = lines_of-line l (text ls) p.0 ∙ ap (λ (rest : List Line). l ∷ rest) (lines_of-text ls p.1)
+
+-- no two lines begin one text
+pub first-line : (l m : Line) (x y : List ℕ) → IsLine l → IsLine m → line l ++ x ≡ line m ++ y → (l ≡ m) × (x ≡ y)
+first-line l m x y p q e =
+    let both : l ∷ lines_of x ≡ m ∷ lines_of y = sym (lines_of-line l x p) ∙ (ap lines_of e ∙ lines_of-line m y q) in
+    let same : l ≡ m = cc in
+    (same, append_cancel_left (line l) x y (e ∙ ap (λ (k : Line). line k ++ y) (sym same)))
 
 -- no two lists of lines have one text
 pub text-injective : (ls ms : List Line) → AreLines ls → AreLines ms → text ls ≡ text ms → ls ≡ ms

@@ -2,6 +2,7 @@
 use Rattle.std.proofs.Common.{◌≡◌, ℕ, ◌+◌, ◌<◌, ◌≤◌, ◌^◌, List, [], ◌∷◌, ◌++◌, map, length, refl, sym, ◌∙◌, append_assoc, arith}
 use Rattle.std.specs.Prelude.{decimal}
 use Rattle.std.specs.List.{AllByRecursion}
+use Rattle.report_text.specs.Form.{IsCounted}
 use Rattle.report_text.specs.Text.{Word, Line, number_words, numbered_lines, section_lines}
 use Rattle.report_text.proofs.Lines.{IsWord, IsLine, AreLines}
 use Rattle.report_text.proofs.Words.{AreNumbers, decimals-are_words, decimals-injective}
@@ -35,15 +36,33 @@ number_words-tells name ms ns p q e = (
     decimals-injective ms ns p q tails
     )
 
+-- ---- so many items, each a line
+pub lines-plain : {A : Type 0} (P : A → Type 0) (words : A → Line) → ((a : A) → P a → IsLine (words a)) → (xs : List A) → AllByRecursion P xs → AreLines (map words xs)
+lines-plain P words plain [] p = tt
+lines-plain P words plain (x ∷ xs) p = (plain x p.0, lines-plain P words plain xs p.1)
+
+pub lines-tell : {A : Type 0} (P : A → Type 0) (words : A → Line) → ((a b : A) → P a → P b → words a ≡ words b → a ≡ b) → (xs ys : List A) (u v : List Line) → length xs ≡ length ys
+    → AllByRecursion P xs → AllByRecursion P ys → map words xs ++ u ≡ map words ys ++ v → (xs ≡ ys) × (u ≡ v)
+lines-tell P words tells [] [] u v size p q e = (refl, e)
+lines-tell P words tells [] (y ∷ ys) u v size p q e = absurd (omega arith)
+lines-tell P words tells (x ∷ xs) [] u v size p q e = absurd (omega arith)
+lines-tell P words tells (x ∷ xs) (y ∷ ys) u v size p q e =
+    let heads : words x ≡ words y = cc in
+    let tails : map words xs ++ u ≡ map words ys ++ v = cc in
+    let rest = lines-tell P words tells xs ys u v (omega arith) p.1 q.1 tails in
+    let head : x ≡ y = tells x y p.0 q.0 heads in
+    let tail : xs ≡ ys = rest.0 in
+    (cc, rest.1)
+
 -- ---- a list of items after its length
-numbered-plain : {A : Type 0} (P : A → Type 0) (lines : ℕ → A → List Line) → ((n : ℕ) → n < 2 ^ 64 → IsSpelling P (lines n)) → (n : ℕ) (xs : List A)
-    → n + length xs ≤ 2 ^ 64 → AllByRecursion P xs → AreLines (numbered_lines lines n xs)
+numbered-plain : {A : Type 0} (P : A → Type 0) (lines : ℕ → A → List Line) → ((n : ℕ) → n < 2 ^ 32 → IsSpelling P (lines n)) → (n : ℕ) (xs : List A)
+    → n + length xs ≤ 2 ^ 32 → AllByRecursion P xs → AreLines (numbered_lines lines n xs)
 numbered-plain P lines each n [] room p = tt
 numbered-plain P lines each n (x ∷ xs) room p =
     all-append IsLine (lines n x) (numbered_lines lines (n + 1) xs) ((each n (omega arith)).plain x p.0) (numbered-plain P lines each (n + 1) xs (omega arith) p.1)
 
-numbered-tells : {A : Type 0} (P : A → Type 0) (lines : ℕ → A → List Line) → ((n : ℕ) → n < 2 ^ 64 → IsSpelling P (lines n)) → (n : ℕ) (xs ys : List A) (u v : List Line)
-    → n + length xs ≤ 2 ^ 64 → length xs ≡ length ys → AllByRecursion P xs → AllByRecursion P ys → numbered_lines lines n xs ++ u ≡ numbered_lines lines n ys ++ v → (xs ≡ ys) × (u ≡ v)
+numbered-tells : {A : Type 0} (P : A → Type 0) (lines : ℕ → A → List Line) → ((n : ℕ) → n < 2 ^ 32 → IsSpelling P (lines n)) → (n : ℕ) (xs ys : List A) (u v : List Line)
+    → n + length xs ≤ 2 ^ 32 → length xs ≡ length ys → AllByRecursion P xs → AllByRecursion P ys → numbered_lines lines n xs ++ u ≡ numbered_lines lines n ys ++ v → (xs ≡ ys) × (u ≡ v)
 numbered-tells P lines each n [] [] u v room size p q e = (refl, e)
 numbered-tells P lines each n [] (y ∷ ys) u v room size p q e = absurd (omega arith)
 numbered-tells P lines each n (x ∷ xs) [] u v room size p q e = absurd (omega arith)
@@ -55,19 +74,15 @@ numbered-tells P lines each n (x ∷ xs) (y ∷ ys) u v room size p q e =
     let tail : xs ≡ ys = rest.0 in
     (cc, rest.1)
 
-pub record IsCounted {A : Type 0} (P : A → Type 0) (xs : List A) : Type 0 where
-  pub count : length xs < 2 ^ 64
-  pub items : AllByRecursion P xs
-
-pub section-is_spelling : {A : Type 0} (P : A → Type 0) (name : Word) (lines : ℕ → A → List Line) → IsWord name → ((n : ℕ) → n < 2 ^ 64 → IsSpelling P (lines n))
+pub section-is_spelling : {A : Type 0} (P : A → Type 0) (name : Word) (lines : ℕ → A → List Line) → IsWord name → ((n : ℕ) → n < 2 ^ 32 → IsSpelling P (lines n))
     → IsSpelling (IsCounted P) (section_lines name lines)
 unfolding section_lines
 section-is_spelling {A} P name lines word each = record {
-  plain = λ xs p. (number_words-is_line name (length xs ∷ []) word (p.count, tt), numbered-plain P lines each 0 xs (omega (arith, p.count)) p.items);
+  plain = λ xs p. (number_words-is_line name (length xs ∷ []) word (omega (arith, p.count), tt), numbered-plain P lines each 0 xs (omega (arith, p.count)) p.items);
   tells = λ xs ys u v p q e.
       let heads : number_words name (length xs ∷ []) ≡ number_words name (length ys ∷ []) = cc in
       let tails : numbered_lines lines 0 xs ++ u ≡ numbered_lines lines 0 ys ++ v = cc in
-      let sizes : length xs ∷ [] ≡ length ys ∷ [] = number_words-tells name (length xs ∷ []) (length ys ∷ []) (p.count, tt) (q.count, tt) heads in
+      let sizes : length xs ∷ [] ≡ length ys ∷ [] = number_words-tells name (length xs ∷ []) (length ys ∷ []) (omega (arith, p.count), tt) (omega (arith, q.count), tt) heads in
       let size : length xs ≡ length ys = cc in
       numbered-tells P lines each 0 xs ys u v (omega (arith, p.count)) size p.items q.items tails;
 }

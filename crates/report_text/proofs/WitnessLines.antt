@@ -4,20 +4,14 @@ use Rattle.std.specs.Prelude.{codes, decimal}
 use Rattle.std.specs.List.{flat_map}
 use Rattle.aig_model.specs.declared.trace.Trace.{Trace}
 use Rattle.report_text.specs.Form.{FitsTrace}
-use Rattle.wit_text.specs.WitnessText.{digit, bits_line, line_text, witness_text}
+use Rattle.wit_text.specs.WitnessText.{digit, line_text, witness_text}
 use Rattle.wit_text.specs.WitnessText as witness
-use Rattle.report_text.specs.Text.{Line, text, witness_lines}
+use Rattle.report_text.specs.Text.{Line, text, one_word, bits_words, witness_lines}
 use Rattle.report_text.proofs.Lines.{◌&◌, IsLine, AreLines, word-from_test}
 use Rattle.report_text.proofs.Words.{decimal-is_word, digits-are_bits_word, digits-injective}
 use Rattle.report_text.proofs.Pieces.{IsSpelling, all-append}
 
 -- ---- lines of one word
-abbrev one_word : List ℕ → Line
-one_word l = l ∷ []
-
-abbrev bits_words : List Bool → Line
-bits_words bits = one_word (bits_line bits)
-
 text-one_word : (ls : List (List ℕ)) → text (map one_word ls) ≡ flat_map line_text ls
 text-one_word [] = refl
 text-one_word (l ∷ ls) = ap (λ (rest : List ℕ). line_text l ++ rest) (text-one_word ls)
@@ -27,7 +21,7 @@ unfolding witness_lines
 witness-written goal t = text-one_word (witness.witness_lines goal t)
 
 -- the lines of the rows, and the last one
-rows-words : (rows : List (List Bool)) → map one_word (map bits_line rows ++ codes "." ∷ []) ≡ map bits_words rows ++ (codes "." ∷ []) ∷ []
+rows-words : (rows : List (List Bool)) → map one_word (map witness.bits_line rows ++ codes "." ∷ []) ≡ map bits_words rows ++ (codes "." ∷ []) ∷ []
 rows-words [] = refl
 rows-words (row ∷ rows) = ap (λ (ls : List Line). bits_words row ∷ ls) (rows-words rows)
 
@@ -36,14 +30,14 @@ unfolding witness_lines
 lines-words goal t = ap (λ (ls : List Line). (codes "1" ∷ []) ∷ ((codes "b" ++ decimal goal) ∷ []) ∷ bits_words t.start ∷ ls) (rows-words t.rows.rows)
 
 -- ---- rows, up to a point
-bits-is_line : (bits : List Bool) → IsLine (bits_words bits)
+pub bits-is_line : (bits : List Bool) → IsLine (bits_words bits)
 bits-is_line bits = (digits-are_bits_word bits, tt)
 
 rows-plain : (rows : List (List Bool)) → AreLines (map bits_words rows)
 rows-plain [] = tt
 rows-plain (row ∷ rows) = (bits-is_line row, rows-plain rows)
 
-bits-tell : (a b : List Bool) → bits_words a ≡ bits_words b → a ≡ b
+pub bits-tell : (a b : List Bool) → bits_words a ≡ bits_words b → a ≡ b
 bits-tell a b e = let digits : map digit a ≡ map digit b = cc in digits-injective a b digits
 
 no_bits : (bits : List Bool) → codes "." ∷ [] ≡ bits_words bits → ⊥
@@ -64,9 +58,6 @@ rows-tell (a ∷ r) (b ∷ s) x y e =
     (cc, rest.1)
 
 -- ---- the whole
-abbrev pub HasWidths : ℕ → ℕ → Trace → Type 0
-HasWidths inputs latches t = FitsTrace inputs latches t.start t.rows.width t.rows.rows
-
 witness-plain : (goal : ℕ) (t : Trace) → goal < 2 ^ 64 → AreLines (witness_lines goal t)
 witness-plain goal t h =
     let words : AreLines ((codes "1" ∷ []) ∷ ((codes "b" ++ decimal goal) ∷ []) ∷ bits_words t.start ∷ (map bits_words t.rows.rows ++ (codes "." ∷ []) ∷ [])) =
@@ -74,7 +65,7 @@ witness-plain goal t h =
     & all-append IsLine (map bits_words t.rows.rows) ((codes "." ∷ []) ∷ []) (rows-plain t.rows.rows) ((word-from_test (codes ".") refl & tt) & tt) in
     subst AreLines (sym (lines-words goal t)) words
 
-witness-tells : (inputs latches goal : ℕ) (t u : Trace) (x y : List Line) → HasWidths inputs latches t → HasWidths inputs latches u
+witness-tells : (inputs latches goal : ℕ) (t u : Trace) (x y : List Line) → FitsTrace inputs latches t → FitsTrace inputs latches u
     → witness_lines goal t ++ x ≡ witness_lines goal u ++ y → (t ≡ u) × (x ≡ y)
 witness-tells inputs latches goal t u x y p q same =
     let e = ap (λ (ls : List Line). ls ++ x) (sym (lines-words goal t)) ∙ same ∙ ap (λ (ls : List Line). ls ++ y) (lines-words goal u) in
@@ -87,5 +78,5 @@ witness-tells inputs latches goal t u x y p q same =
     let trace : t ≡ u = λ i. record { start = start i; rows = table i } in
     (trace, rest.1)
 
-pub witness-is_spelling : (inputs latches goal : ℕ) → goal < 2 ^ 64 → IsSpelling (HasWidths inputs latches) (witness_lines goal)
+pub witness-is_spelling : (inputs latches goal : ℕ) → goal < 2 ^ 64 → IsSpelling (FitsTrace inputs latches) (witness_lines goal)
 witness-is_spelling inputs latches goal h = record { plain = λ t p. witness-plain goal t h; tells = witness-tells inputs latches goal }

@@ -1,6 +1,7 @@
 -- The words of a report: numbers, bits, and fixed ones.
-use Rattle.std.proofs.Common.{◌≡◌, ℕ, ◌<◌, ◌^◌, Bool, true, false, List, [], ◌∷◌, map, get_or, refl, ap, arith}
+use Rattle.std.proofs.Common.{◌≡◌, ℕ, suc, ◌<◌, ◌^◌, ℤ, pos, negsuc, nat_abs, Bool, true, false, List, [], ◌∷◌, map, get_or, refl, sym, ap, arith}
 use Rattle.std.specs.Prelude.{decimal}
+use Rattle.std.specs.Fmt.{signed_decimal}
 use Rattle.std.specs.List.{AllByRecursion}
 use Rattle.std.specs.Str.Parse.{AllDigits}
 use Rattle.std.proofs.lemmas.Bool.Decides.{nat_tests}
@@ -44,6 +45,27 @@ decimal-no_letter n w h letter e =
     let numeral = decimal_is_IsNumeral n h in
     let range = digit_at (decimal n) 0 numeral.0.1 (numeral.0.0) in
     omega (arith, range.1, ap (λ (v : Word). get_or v 0 0) e)
+
+-- ---- numbers with a sign
+pub signed-is_word : (z : ℤ) → nat_abs z < 2 ^ 63 → IsWord (signed_decimal z)
+signed-is_word (pos n) h = decimal-is_word n (omega arith)
+signed-is_word (negsuc n) h = (record { newline = refl; space = refl }, decimal-is_word (suc n) (omega arith))
+
+no_sign : (m n : ℕ) → m < 2 ^ 64 → signed_decimal (pos m) ≡ signed_decimal (negsuc n) → ⊥
+no_sign m n h e =
+    let numeral = decimal_is_IsNumeral m h in
+    let range = digit_at (decimal m) 0 numeral.0.1 (numeral.0.0) in
+    omega (arith, range.0, ap (λ (v : Word). get_or v 0 0) e)
+
+pub signed-injective : (y z : ℤ) → nat_abs y < 2 ^ 63 → nat_abs z < 2 ^ 63 → signed_decimal y ≡ signed_decimal z → y ≡ z
+signed-injective (pos m) (pos n) h k e = ap (λ (i : ℕ). pos i) (decimal_injective m n (omega arith) (omega arith) e)
+signed-injective (pos m) (negsuc n) h k e = absurd (no_sign m n (omega arith) e)
+signed-injective (negsuc m) (pos n) h k e = absurd (no_sign n m (omega arith) (sym e))
+signed-injective (negsuc m) (negsuc n) h k e =
+    let tails : decimal (suc m) ≡ decimal (suc n) = cc in
+    let more : suc m ≡ suc n = decimal_injective (suc m) (suc n) (omega arith) (omega arith) tails in
+    let same : m ≡ n = omega arith in
+    ap (λ (i : ℕ). negsuc i) same
 
 -- ---- bits
 pub digit-injective : (a b : Bool) → digit a ≡ digit b → a ≡ b

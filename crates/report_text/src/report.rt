@@ -24,6 +24,12 @@ pub enum GoalBlock {
         number: u64,
         witness: Trace,
     },
+    /// The certificate, and the proof that its clauses exclude the goal.
+    Unreachable {
+        number: u64,
+        inv: u32,
+        proof: Proof,
+    },
     Open {
         depth: Option<u32>,
         hops: HopBounds,

@@ -4,11 +4,15 @@ ghost use Rattle.std.specs.Prelude.{◌≡◌, ◌∷◌, ◌++◌, decimal, OnO
 ghost use Rattle.std.specs.List.{flat_map};
 ghost use Rattle.report_text.specs.Text.{line, text, size_words, options_words, kind_text, source_text, entry_words, history_lines, bound_text, hop_text, open_words, block_lines, goals_lines, end_words, report_text};
 
+use crate::clause_text::write_invs;
+use crate::query_text::{write_refutes, write_spents};
 use crate::report::{GoalBlock, GoalBlocks, HopBound, HopBounds, Report};
+use crate::seed_text::write_seeds;
 use crate::text_writer::TextWriter;
 use aig_model::{Kind, Trace};
 use board_core::{Entries, Entry, Source};
 use ketch_base::OutOfMemory;
+use lrat_text::Proof;
 use sim_walk::Options;
 use std::alloc::Global;
 
@@ -172,11 +176,41 @@ fn write_reached(
 }
 
 #[tactic(auto, unfolding(crate::specs::Text::block_lines))]
-fn write_block(out: &mut TextWriter, goal: u64, block: &GoalBlock) -> Result<(), OutOfMemory>
+fn write_unreachable(
+    alloc: Global,
+    out: &mut TextWriter,
+    goal: u64,
+    number: u64,
+    inv: u32,
+    proof: &Proof,
+) -> Result<(), OutOfMemory>
+    ensures { OnOk result (out.new ≡ out.old ++ text (block_lines goal (GoalBlock.Unreachable number inv proof.now))) }
+{
+    out.word("goal")?;
+    out.next_number(goal)?;
+    out.next_word("unreachable")?;
+    out.next_number(number)?;
+    out.next_word("inv")?;
+    out.next_number(inv.into())?;
+    out.end_line()?;
+    out.proof(alloc, proof)?;
+    Ok(())
+}
+
+#[tactic(auto, unfolding(crate::specs::Text::block_lines))]
+fn write_block(
+    alloc: Global,
+    out: &mut TextWriter,
+    goal: u64,
+    block: &GoalBlock,
+) -> Result<(), OutOfMemory>
     ensures { OnOk result (out.new ≡ out.old ++ text (block_lines goal block.now)) }
 {
     match block {
         GoalBlock::Reached { number, witness } => write_reached(out, goal, *number, witness),
+        GoalBlock::Unreachable { number, inv, proof } => {
+            write_unreachable(alloc, out, goal, *number, *inv, proof)
+        }
         GoalBlock::Open {
             depth,
             hops,
@@ -185,12 +219,12 @@ fn write_block(out: &mut TextWriter, goal: u64, block: &GoalBlock) -> Result<(),
     }
 }
 
-fn write_goals(out: &mut TextWriter, blocks: &GoalBlocks) -> Result<(), OutOfMemory>
+fn write_goals(alloc: Global, out: &mut TextWriter, blocks: &GoalBlocks) -> Result<(), OutOfMemory>
     ensures { OnOk result (out.new ≡ out.old ++ text (goals_lines blocks.now)) }
 {
     out.number_line("goals", &[blocks.len() as u64])?;
     for (goal, block) in blocks.as_slice().iter().enumerate() {
-        write_block(out, goal as u64, block)?;
+        write_block(alloc, out, goal as u64, block)?;
     }
     Ok(())
 }
@@ -218,9 +252,11 @@ pub fn text_of(alloc: Global, report: &Report) -> Result<Vec<u8>, OutOfMemory>
     write_size(&mut out, report)?;
     write_options(&mut out, &report.options)?;
     write_history(&mut out, &report.history)?;
-    out.word("seeds 0\ninvs 0\n")?;
-    write_goals(&mut out, &report.goals)?;
-    out.word("spents 0\nrefutes 0\n")?;
+    write_seeds(alloc, &mut out, &report.seeds)?;
+    write_invs(alloc, &mut out, &report.invs)?;
+    write_goals(alloc, &mut out, &report.goals)?;
+    write_spents(alloc, &mut out, &report.spents)?;
+    write_refutes(alloc, &mut out, &report.refutes)?;
     write_end(&mut out, report)?;
     Ok(out.into_bytes())
 }

@@ -1,13 +1,16 @@
-use Rattle.std.proofs.Common.{length, refl, ap, sym, ◌∙◌, arith}
+use Rattle.std.proofs.Common.{length, refl, ap, ◌∙◌, arith}
 use Rattle.std.proofs.lemmas.List.Sums.{count_by-le-length}
-use Rattle.cover_run.specs.Report.{is_reached}
+use Rattle.cover_run.specs.Report.{is_reached, is_open}
 use Rattle.cover_run.proofs.Formed.{few_goals}
-use Rattle.cover_run.proofs.Told.{open_are}
 use Rattle.cover_run.proofs.composing.report_of.Goals as goal
 
 pub overflow_cast-reached : goal.overflow_cast-reached
 overflow_cast-reached c =
     omega (arith, c.reached_among-reached.ensures, count_by-le-length is_reached c.args.goals, c.requires.each_goal, few_goals c.args.signals.now.lits c.lits-lits.ensures.well_formed.few)
+
+pub overflow_cast-unsettled : goal.overflow_cast-unsettled
+overflow_cast-unsettled c =
+    omega (arith, c.open_among-unsettled.ensures, count_by-le-length is_open c.args.goals, c.requires.each_goal, few_goals c.args.signals.now.lits c.lits-lits.ensures.well_formed.few)
 
 pub returns-clause-holds : goal.returns-clause-holds
 returns-clause-holds c = record {
@@ -23,7 +26,7 @@ returns-clause-holds c = record {
   refutes = c.new-4.ensures;
   reached = c.reached_among-reached.ensures;
   unreachable = refl;
-  unsettled = open_are c.args.goals c.goals.result c.reached_among-reached.result (c.requires.each_goal ∙ sym c.goals.ensures) c.reached_among-reached.ensures;
+  unsettled = c.open_among-unsettled.ensures;
 }
 
 pub returns-clause-options : goal.returns-clause-options

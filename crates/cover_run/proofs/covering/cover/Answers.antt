@@ -1,8 +1,8 @@
 use Rattle.std.proofs.lemmas.Result.{err_from_is_err_and}
-use Rattle.cover_run.specs.Commands.{cover_call}
+use Rattle.command_words.specs.Commands.{cover_call}
 use Rattle.cover_run.specs.Files.{files_of}
 use Rattle.cover_run.specs.Seen.{seen}
-use Rattle.cover_run.specs.Words.{Cover}
+use Rattle.command_words.specs.Words.{Cover}
 use Rattle.cover_run.proofs.Opening.{all_fine}
 use Rattle.cover_run.proofs.Reading.{read_then, subject_stops_cover}
 use Rattle.cover_run.proofs.Rooms.{room_stop}

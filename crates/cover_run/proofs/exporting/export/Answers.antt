@@ -1,8 +1,8 @@
 use Rattle.std.proofs.lemmas.Result.{err_from_is_err_and}
-use Rattle.cover_run.specs.Commands.{subject_named}
+use Rattle.command_words.specs.Commands.{subject_named}
 use Rattle.cover_run.specs.Files.{files_of}
 use Rattle.cover_run.specs.Seen.{seen}
-use Rattle.cover_run.specs.Words.{Goals}
+use Rattle.command_words.specs.Words.{Goals}
 use Rattle.cover_run.proofs.Exported.{goals_stop, goal_text}
 use Rattle.cover_run.proofs.Opening.{all_fine}
 use Rattle.cover_run.proofs.Reading.{read_then, subject_stops_goals}

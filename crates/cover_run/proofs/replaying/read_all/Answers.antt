@@ -1,11 +1,11 @@
 use Rattle.std.proofs.Common.{◌≡◌, ◌∷◌, [], subst, List, ℕ, Option, IfSome, refl}
 use Rattle.std.proofs.lemmas.Result.{err_from_is_err_and}
-use Rattle.cover_run.specs.declared.stop.File.TheVariants as files
-use Rattle.cover_run.specs.Commands.{replay_call}
+use Rattle.command_words.specs.declared.stop.File.TheVariants as files
+use Rattle.command_words.specs.Commands.{replay_call}
 use Rattle.cover_run.specs.Covering.{IsCircuitText, IsSignalsText}
 use Rattle.cover_run.specs.Files.{subject_files, files_of}
 use Rattle.cover_run.specs.Seen.{seen}
-use Rattle.cover_run.specs.Words.{Replay}
+use Rattle.command_words.specs.Words.{Replay}
 use Rattle.cover_run.proofs.Behind.{same_counts, read_before, read_behind, all_behind}
 use Rattle.cover_run.proofs.Opening.{all_fine}
 use Rattle.cover_run.proofs.Reading.{all_one, part_after, part_unread, read_then, subject_stops_replay}

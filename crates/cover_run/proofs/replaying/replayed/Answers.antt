@@ -1,8 +1,8 @@
 use Rattle.std.proofs.lemmas.Result.{err_from_is_err_and}
-use Rattle.cover_run.specs.Commands.{replay_call}
+use Rattle.command_words.specs.Commands.{replay_call}
 use Rattle.cover_run.specs.Files.{files_of}
 use Rattle.cover_run.specs.Seen.{seen}
-use Rattle.cover_run.specs.Words.{Replay}
+use Rattle.command_words.specs.Words.{Replay}
 use Rattle.cover_run.proofs.Opening.{all_fine}
 use Rattle.cover_run.proofs.Reading.{read_then}
 use Rattle.cover_run.proofs.ReplayRead.{misfit_refused}

@@ -2,16 +2,17 @@ use Rattle.std.proofs.Common.{◌≡◌, subst, List, [], ◌∷◌, ℕ, length
 use Rattle.std.proofs.lemmas.Result.{err_from_is_err_and}
 use Rattle.cover_run.specs.CircuitText.{SpellsCircuit}
 use Rattle.aig_model.specs.declared.parts.Parts.{Parts}
-use Rattle.cover_run.specs.declared.stop.File.TheVariants as files
-use Rattle.cover_run.specs.Commands.{subject_named}
+use Rattle.command_words.specs.declared.stop.File.TheVariants as files
+use Rattle.command_words.specs.Commands.{subject_named}
 use Rattle.cover_run.proofs.CircuitTexts.{is-circuit}
 use Rattle.aig_model.specs.WellFormed.{IsCircuit}
 use Rattle.signal_list.specs.SignalText.{SpellsSignals}
 use Rattle.signal_list.proofs.InRange.{are-signals}
 use Rattle.cover_run.specs.Covering.{HasCircuit, HasSignals}
-use Rattle.cover_run.specs.Files.{limit_of, subject_files}
+use Rattle.command_words.specs.Limits.{limit_of}
+use Rattle.cover_run.specs.Files.{subject_files}
 use Rattle.cover_run.specs.Seen.{DeskSeen, seen}
-use Rattle.cover_run.specs.Words.{Subject}
+use Rattle.command_words.specs.Words.{Subject}
 use Rattle.cover_run.proofs.Reading.{fine_first, fine_after, all_one, all_after, read_after, read_more, read_then, part_after, circuit_unread, signals_unread, circuit_refused, signals_refused}
 use Rattle.cover_run.proofs.subject.read_subject.Goals as goal
 

@@ -1,0 +1,2 @@
+pub mod FrontWord
+pub mod Scales
