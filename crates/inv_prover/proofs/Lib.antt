@@ -6,3 +6,4 @@ pub mod Picking
 pub mod Places
 pub mod Shrinking
 pub mod Unique
+pub mod Walking

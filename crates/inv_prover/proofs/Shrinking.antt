@@ -12,8 +12,8 @@ use Rattle.inv_cert.specs.Resets.{HoldsAtReset}
 use Rattle.inv_cert.specs.KeptSets.{IsKeptSet}
 use Rattle.inv_cert.proofs.Invariance.{is_invariant}
 use Rattle.inv_prover.specs.Greatest.{IsPart, ArePicked, IsInGreatest, IsGreatest, ContainsGreatest}
-use Rattle.inv_prover.specs.Search.{AreAskable, AreKept, AreLeft, IsBroken, Shrinks}
-use Rattle.inv_prover.specs.Answers.{IsWhole}
+use Rattle.inv_prover.specs.Search.{AreAskable, AreLeft, IsBroken, Shrinks}
+use Rattle.inv_prover.specs.Answers.{AreKept, IsWhole}
 use Rattle.inv_prover.proofs.Parts.{again, among, each, fewer, itself, less}
 
 -- ---- fewer clauses
@@ -84,7 +84,7 @@ kept_set c candidates clauses lemmas proofs circuit ask left kept = record {
 }
 
 pub whole : (c : Parts) (candidates clauses : List (List ℤ)) (lemmas : ℕ) (proofs : List (List LratStep)) → IsCircuit c → AreAskable c clauses → AreLeft c candidates clauses
-    → AreKept c clauses lemmas proofs → IsWhole c candidates clauses proofs
+    → AreKept c clauses lemmas proofs → IsWhole c candidates lemmas clauses proofs
 whole c candidates clauses lemmas proofs circuit ask left kept =
     let set : IsKeptSet (record { circuit = c; clauses = clauses; kept = proofs }) = kept_set c candidates clauses lemmas proofs circuit ask left kept in
     record {
@@ -96,6 +96,7 @@ whole c candidates clauses lemmas proofs circuit ask left kept =
         );
       };
       kept = set;
+      proved = kept;
     }
 
 -- ---- the greatest invariant is one

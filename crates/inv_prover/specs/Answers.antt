@@ -1,5 +1,5 @@
 -- What the prover answers.
-use Rattle.std.specs.Prelude.{ℕ, ◌≡◌, ◌<◌, Bool, ℤ, List, length}
+use Rattle.std.specs.Prelude.{ℕ, ◌≡◌, ◌<◌, Bool, ℤ, List, [], length, get_or}
 use Rattle.aig_model.specs.Meaning.{Assignment, IsStep, IsLegal, goal_of}
 use Rattle.aig_model.specs.LatchClauses.{SatisfiesClauses}
 use Rattle.aig_model.specs.declared.parts.Parts.{Parts}
@@ -14,10 +14,16 @@ use Rattle.inv_prover.specs.declared.grown.Grown.{Grown}
 use Rattle.inv_prover.specs.declared.grown.Grown.TheVariants as grown
 
 -- ---- the greatest invariant
+-- each clause has its proof, within the budget of lemmas
+pub record AreKept (c : Parts) (clauses : List (List ℤ)) (lemmas : ℕ) (proofs : List (List LratStep)) : Type 0 where
+  pub count : length proofs ≡ length clauses
+  pub refutations : (k : ℕ) → k < length clauses → IsRefutation (kept_formula c clauses k) lemmas (get_or proofs k [])
+
 -- all of it, and each clause with its proof
-pub record IsWhole (c : Parts) (candidates clauses : List (List ℤ)) (proofs : List (List LratStep)) : Type 0 where
+pub record IsWhole (c : Parts) (candidates : List (List ℤ)) (lemmas : ℕ) (clauses : List (List ℤ)) (proofs : List (List LratStep)) : Type 0 where
   pub greatest : IsGreatest c candidates clauses
   pub kept : IsKeptSet (record { circuit = c; clauses = clauses; kept = proofs })
+  pub proved : AreKept c clauses lemmas proofs
 
 -- clauses that have it among them, and a proof that the budget was spent on the question whether one of them is kept
 pub record IsSpentAt (c : Parts) (candidates : List (List ℤ)) (lemmas : ℕ) (clauses : List (List ℤ)) (place : ℕ) (proof : List LratStep) : Type 0 where
@@ -26,7 +32,7 @@ pub record IsSpentAt (c : Parts) (candidates : List (List ℤ)) (lemmas : ℕ) (
   pub spending : IsSpending (kept_formula c clauses place) lemmas proof
 
 abbrev pub IsGrown : Parts → List (List ℤ) → ℕ → Grown → Type 0
-IsGrown c candidates lemmas (grown.Whole clauses kept) = IsWhole c candidates clauses kept
+IsGrown c candidates lemmas (grown.Whole clauses kept) = IsWhole c candidates lemmas clauses kept
 IsGrown c candidates lemmas (grown.Spent clauses place proof) = IsSpentAt c candidates lemmas clauses place proof
 
 -- ---- a goal

@@ -3,11 +3,11 @@ use Rattle.std.specs.Prelude.{ℕ, ◌≡◌, ◌<◌, ◌^◌, Bool, ℤ, List,
 use Rattle.aig_model.specs.Meaning.{Assignment, next_values}
 use Rattle.aig_model.specs.LatchClauses.{IsInvariant, IsLatchClause, SatisfiesClause}
 use Rattle.aig_model.specs.declared.parts.Parts.{Parts}
-use Rattle.lrat_text.specs.declared.proof.LratStep.{LratStep}
 use Rattle.unroll.specs.Laws.{Holds}
 use Rattle.unroll.specs.Queries.{kept_formula}
 use Rattle.sat_solver.specs.Answer.{IsRefutation, IsSpending}
 use Rattle.inv_cert.specs.Resets.{HoldsAtReset}
+use Rattle.inv_prover.specs.Answers.{AreKept}
 use Rattle.inv_prover.specs.Greatest.{IsPart}
 use Rattle.inv_prover.specs.declared.query.KeptAnswer.{KeptAnswer}
 use Rattle.inv_prover.specs.declared.query.KeptAnswer.TheVariants as kept_answer
@@ -44,11 +44,6 @@ IsKeptAnswer c clauses place lemmas (kept_answer.Broken next) = IsBroken c claus
 IsKeptAnswer c clauses place lemmas (kept_answer.Spent proof) = IsSpending (kept_formula c clauses place) lemmas proof
 
 -- ---- all clauses
--- each has its proof
-pub record AreKept (c : Parts) (clauses : List (List ℤ)) (lemmas : ℕ) (proofs : List (List LratStep)) : Type 0 where
-  pub count : length proofs ≡ length clauses
-  pub refutations : (k : ℕ) → k < length clauses → IsRefutation (kept_formula c clauses k) lemmas (get_or proofs k [])
-
 abbrev pub IsRound : Parts → List (List ℤ) → ℕ → Round → Type 0
 IsRound c clauses lemmas (rounds.Whole proofs) = AreKept c clauses lemmas proofs
 IsRound c clauses lemmas (rounds.Broken place next) = (place < length clauses) × IsBroken c clauses place next

@@ -1,17 +1,22 @@
 //! The greatest invariant among candidates.
 
 ghost use Rattle.std.specs.Prelude.{◌≤◌, ◌<◌, ◌^◌, All, length, IfOk, OnOk};
+ghost use Rattle.unroll.specs.Framing.{HasFrames};
+ghost use Rattle.unroll.specs.declared.start.Start.TheVariants.{Any};
 ghost use Rattle.aig_model.specs.LatchClauses.{IsLatchClause};
 ghost use Rattle.inv_prover.specs.Answers.{IsGrown};
 ghost use Rattle.inv_prover.specs.Search.{AreAskable, IsBroken, Shrinks};
 
+use crate::frames::one_step;
 use crate::grown::Grown;
 use crate::pick::{holding_at_reset, holding_in};
 use crate::query::{KeptAnswer, is_kept};
 use crate::round::{Round, ask_all};
+use crate::walk::leave_out_by_walk;
 use aig_model::{Bits, Circuit, LatchClauses};
 use ketch_base::OutOfMemory;
 use std::alloc::Global;
+use unroll::FramedFormula;
 
 /// Leaves out the clauses that don't hold in the state, which comes after a step that breaks the one at the place.
 fn leave_out(
@@ -35,18 +40,21 @@ fn leave_out(
 fn leave_out_from(
     alloc: Global,
     circuit: &Circuit,
+    framed: &mut FramedFormula,
     clauses: &mut LatchClauses,
     first: u32,
     lemmas: u64,
 ) -> Result<(), OutOfMemory>
+    requires frames { HasFrames circuit.now Any 0 framed.old }
     requires clauses { AreAskable circuit.now clauses.old }
     requires some { 1 ≤ lemmas }
     requires few { lemmas ≤ 2 ^ 60 }
-    ensures { OnOk result (Shrinks circuit.now clauses.old clauses.new) }
+    ensures frames { OnOk result (HasFrames circuit.now Any 0 framed.new) }
+    ensures shrinks { OnOk result (Shrinks circuit.now clauses.old clauses.new) }
 {
     let mut place = first;
     while (place as usize) < clauses.len() {
-        match is_kept(alloc, circuit, clauses, place, lemmas)? {
+        match is_kept(alloc, circuit, framed, clauses, place, lemmas)? {
             KeptAnswer::Kept(_) => place += 1,
             KeptAnswer::Broken(next) => leave_out(alloc, circuit, clauses, place, &next)?,
             KeptAnswer::Spent(_) => return Ok(()),
@@ -71,8 +79,10 @@ pub fn greatest(
 {
     circuit.is_well_formed();
     let mut clauses = holding_at_reset(alloc, circuit, candidates.as_slice())?;
+    leave_out_by_walk(alloc, circuit, &mut clauses)?;
+    let mut framed = one_step(alloc, circuit)?;
     loop {
-        match ask_all(alloc, circuit, &clauses, lemmas)? {
+        match ask_all(alloc, circuit, &mut framed, &clauses, lemmas)? {
             Round::Whole(kept) => return Ok(Grown::Whole { clauses, kept }),
             Round::Spent { place, proof } => {
                 return Ok(Grown::Spent {
@@ -83,7 +93,7 @@ pub fn greatest(
             }
             Round::Broken { place, next } => {
                 leave_out(alloc, circuit, &mut clauses, place, &next)?;
-                leave_out_from(alloc, circuit, &mut clauses, place, lemmas)?;
+                leave_out_from(alloc, circuit, &mut framed, &mut clauses, place, lemmas)?;
             }
         }
     }

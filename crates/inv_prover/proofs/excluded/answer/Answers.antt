@@ -8,17 +8,17 @@ use Rattle.sat_solver.specs.declared.answer.Answer.{Answer}
 use Rattle.inv_prover.specs.Answers.{IsExcluded}
 use Rattle.inv_prover.specs.declared.excluded.Excluded.{Excluded}
 use Rattle.inv_prover.proofs.Escaping.{escapes}
-use Rattle.inv_prover.proofs.excluded.exclude.Goals as goal
+use Rattle.inv_prover.proofs.excluded.answer.Goals as goal
 
-pub returns-in-Sat : goal.returns-in-Sat
-returns-in-Sat c =
+pub returns-in_ok-answer-in-Sat : goal.returns-in_ok-answer-in-Sat
+returns-in_ok-answer-in-Sat c =
     let circuit = c.args.circuit.now in
     let sig = c.args.signals.now.lits in
     let clauses = c.args.clauses.now in
     let values = c.in-Sat.values in
     let formula = excludes_formula circuit sig clauses c.args.goal in
     let signals : IsSignals circuit sig = subst (λ (x : Parts). IsSignals x sig) c.requires.circuit c.is_well_formed-2.ensures in
-    let answer = subst (λ (a : Answer). IsAnswer c.in_ok-formula.formula c.args.lemmas a) c.in-Sat.is c.in_ok-proof.ensures in
-    let model : IsModel formula values = subst (λ (f : CnfFormula). IsModel f values) c.in_ok-formula.ensures answer in
+    let answer = subst (λ (a : Answer). IsAnswer c.args.formula.now c.args.lemmas a) c.in-Sat.is c.in_ok-proof.ensures in
+    let model : IsModel formula values = subst (λ (f : CnfFormula). IsModel f values) c.requires.formula answer in
     subst (λ (x : Excluded). IsExcluded circuit sig clauses c.args.goal c.args.lemmas x) (sym c.in_ok-answer-in-Sat.ensures)
     (escapes circuit sig clauses c.args.goal values c.is_well_formed.ensures signals c.requires.goal model)
