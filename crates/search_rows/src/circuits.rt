@@ -1,8 +1,8 @@
 //! What the rows are made of: signals from texts, and goals that are settled.
 
-ghost use Rattle.std.specs.Prelude.{ℕ, ◌≡◌, ◌<◌, ◌^◌, All, IfOk, IfSome};
+ghost use Rattle.std.specs.Prelude.{ℕ, ◌≡◌, ◌<◌, ◌^◌, length, All, IfOk, IfSome};
 
-use aig_model::{Circuit, Goals, Signals};
+use aig_model::{Bits, Circuit, Goals, Signals};
 use ketch_base::OutOfMemory;
 use signal_list::read_signals;
 use std::alloc::Global;
@@ -27,4 +27,15 @@ pub fn goals(alloc: Global, zero: bool) -> Result<Goals, OutOfMemory>
         goals.push(0)?;
     }
     Ok(goals)
+}
+
+/// A value for each goal, true for goal 0 where it is known.
+pub fn known(alloc: Global, signals: &Signals, zero: bool) -> Result<Bits, OutOfMemory>
+    ensures { IfOk result (λ known. length known ≡ 2 ^ length signals.now.lits) }
+{
+    let mut known = Bits::all_false(alloc, signals.goals() as usize)?;
+    if zero && !known.is_empty() {
+        known.set(0, true);
+    }
+    Ok(known)
 }

@@ -6,6 +6,8 @@ mod circuits;
 #[cfg(test)]
 mod formula_rows;
 #[cfg(test)]
+mod from_state_rows;
+#[cfg(test)]
 mod hop_rows;
 #[cfg(test)]
 mod sweep_rows;

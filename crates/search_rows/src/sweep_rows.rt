@@ -1,10 +1,10 @@
 //! Sweeps of small circuits of one signal, so of the goals 0 and 1.
 
-ghost use Rattle.std.specs.Prelude.{◌≡◌, ◌^◌, length, IfOk};
+ghost use Rattle.std.specs.Prelude.{◌≡◌};
 
-use crate::circuits::signals;
+use crate::circuits::{known, signals};
 use aig_ascii::read_aag;
-use aig_model::{Bits, Circuit, Signals};
+use aig_model::{Circuit, Signals};
 use ketch_base::OutOfMemory;
 use std::alloc::Global;
 use std::test::Fail;
@@ -117,17 +117,6 @@ const ROWS: [Row; 7] = [
         spent: None,
     },
 ];
-
-/// A value for each goal, true for goal 0 where it is known.
-fn known(alloc: Global, signals: &Signals, zero: bool) -> Result<Bits, OutOfMemory>
-    ensures { IfOk result (λ known. length known ≡ 2 ^ length signals.now.lits) }
-{
-    let mut known = Bits::all_false(alloc, signals.goals() as usize)?;
-    if zero && !known.is_empty() {
-        known.set(0, true);
-    }
-    Ok(known)
-}
 
 fn swept(
     alloc: Global,

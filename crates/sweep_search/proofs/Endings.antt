@@ -1,17 +1,20 @@
--- How a sweep ends.
+-- How a search ends.
 use Rattle.std.proofs.Common.{◌≡◌, ℕ, suc, ◌+◌, ◌<◌, ◌≤◌, ◌^◌, Bool, List, [], length, get_or, sym, ap, subst, arith, All, inl, inr, Option, Some, None}
 use Rattle.std.proofs.lemmas.List.Elements.{All-weaker}
-use Rattle.aig_model.specs.Meaning.{Within}
 use Rattle.aig_model.specs.declared.parts.Parts.{Parts}
 use Rattle.aig_model.proofs.OneGoal.{goal_of-lt}
-use Rattle.sweep_search.specs.Sweep.{IsSettled, AreAllSettled, IsSpentQuery, IsSweep, IsEnd, IsBefore, IsLastStep, steps_up_to}
+use Rattle.unroll.specs.declared.start.Start.{Start}
+use Rattle.sweep_search.specs.Sweep.{IsSettled, AreAllSettled, IsWithin, IsSpentFrom, IsSearchFrom, IsEndFrom, IsBefore, IsLastStep, steps_up_to}
 use Rattle.sweep_search.specs.Steps.{IsSearched}
 use Rattle.sweep_search.specs.declared.swept.FoundGoal.{FoundGoal}
 use Rattle.sweep_search.specs.declared.swept.SpentQuery.{SpentQuery}
 use Rattle.sweep_search.specs.declared.swept.Swept.{Swept}
+use Rattle.sweep_search.proofs.Searched.{reached_from}
 
-within_below : (c : Parts) (sig : List ℕ) (d goal : ℕ) → Within c sig d goal → goal < 2 ^ length sig
-within_below c sig d goal w = subst (λ (g : ℕ). g < 2 ^ length sig) w.at.shows (goal_of-lt sig (get_or w.at.frames w.t []))
+within_below : (c : Parts) (sig : List ℕ) (start : Start) (d goal : ℕ) → IsWithin c sig start d goal → goal < 2 ^ length sig
+within_below c sig start d goal w =
+    let r = (reached_from c sig start d goal w).0 in
+    subst (λ (g : ℕ). g < 2 ^ length sig) r.at.shows (goal_of-lt sig (get_or r.at.frames r.t []))
 
 upto_below : (upto : Option ℕ) (d whole : ℕ) → steps_up_to upto ≡ whole → upto ≡ Some d → d < whole
 upto_below upto d whole e is = let s : steps_up_to upto ≡ suc d = ap steps_up_to is in omega arith
@@ -21,11 +24,11 @@ last_upto None depth e = absurd (omega (arith, e))
 last_upto (Some t) depth e = (let same : t ≡ depth = omega (arith, e) in ap Some same)
 
 -- the steps that are searched whole are as many as `upto` says
-sweep_of : (c : Parts) (sig : List ℕ) (known : List Bool) (depth lemmas step : ℕ) (s : Swept) → steps_up_to s.upto ≡ step → IsSearched c sig known step s.found
+search_of : (c : Parts) (sig : List ℕ) (start : Start) (known : List Bool) (depth lemmas step : ℕ) (s : Swept) → steps_up_to s.upto ≡ step → IsSearched c sig start known step s.found
     → All (λ (f : FoundGoal). f.step ≤ depth) s.found → step ≤ depth + 1
-    → ((d goal : ℕ) → d ≤ depth → IsBefore d s.spent → Within c sig d goal → IsSettled known s.found goal)
-    → IsEnd c sig known depth lemmas s.found s.upto s.spent → IsSweep c sig known depth lemmas s
-sweep_of c sig known depth lemmas step s upto searched shallow inside settles end = record {
+    → ((d goal : ℕ) → d ≤ depth → IsBefore d s.spent → IsWithin c sig start d goal → IsSettled known s.found goal)
+    → IsEndFrom c sig start known depth lemmas s.found s.upto s.spent → IsSearchFrom c sig start known depth lemmas s
+search_of c sig start known depth lemmas step s upto searched shallow inside settles end = record {
   found = searched.news;
   settles = settles;
   whole = λ d goal is w. searched.whole d goal (upto_below s.upto d step upto is) w;
@@ -36,35 +39,35 @@ sweep_of c sig known depth lemmas step s upto searched shallow inside settles en
 }
 
 -- all steps were searched
-pub sweep_to_depth : (c : Parts) (sig : List ℕ) (known : List Bool) (depth lemmas : ℕ) (s : Swept) → steps_up_to s.upto ≡ depth + 1 → s.spent ≡ None
-    → IsSearched c sig known (depth + 1) s.found → All (λ (f : FoundGoal). f.step ≤ depth) s.found → ¬ AreAllSettled sig known s.found
-    → IsSweep c sig known depth lemmas s
-sweep_to_depth c sig known depth lemmas s upto spent searched shallow left =
-    sweep_of c sig known depth lemmas (depth + 1) s upto searched shallow (omega arith)
+pub search_to_depth : (c : Parts) (sig : List ℕ) (start : Start) (known : List Bool) (depth lemmas : ℕ) (s : Swept) → steps_up_to s.upto ≡ depth + 1 → s.spent ≡ None
+    → IsSearched c sig start known (depth + 1) s.found → All (λ (f : FoundGoal). f.step ≤ depth) s.found → ¬ AreAllSettled sig known s.found
+    → IsSearchFrom c sig start known depth lemmas s
+search_to_depth c sig start known depth lemmas s upto spent searched shallow left =
+    search_of c sig start known depth lemmas (depth + 1) s upto searched shallow (omega arith)
     (λ d goal l before w. searched.whole d goal (omega arith) w)
-    (subst (IsEnd c sig known depth lemmas s.found s.upto) (sym spent) (inl (last_upto s.upto depth upto, left)))
+    (subst (IsEndFrom c sig start known depth lemmas s.found s.upto) (sym spent) (inl (last_upto s.upto depth upto, left)))
 
 -- every goal is settled
-pub sweep_to_all : (c : Parts) (sig : List ℕ) (known : List Bool) (depth lemmas step : ℕ) (s : Swept) → steps_up_to s.upto ≡ step → s.spent ≡ None → step ≤ depth
-    → IsSearched c sig known step s.found → All (λ (f : FoundGoal). f.step ≤ depth) s.found → AreAllSettled sig known s.found → IsSweep c sig known depth lemmas s
-sweep_to_all c sig known depth lemmas step s upto spent inside searched shallow all =
-    sweep_of c sig known depth lemmas step s upto searched shallow (omega arith)
-    (λ d goal l before w. all goal (within_below c sig d goal w))
-    (subst (IsEnd c sig known depth lemmas s.found s.upto) (sym spent) (inr (all, subst (IsLastStep s.found) (sym upto) (searched.timely all))))
+pub search_to_all : (c : Parts) (sig : List ℕ) (start : Start) (known : List Bool) (depth lemmas step : ℕ) (s : Swept) → steps_up_to s.upto ≡ step → s.spent ≡ None → step ≤ depth
+    → IsSearched c sig start known step s.found → All (λ (f : FoundGoal). f.step ≤ depth) s.found → AreAllSettled sig known s.found → IsSearchFrom c sig start known depth lemmas s
+search_to_all c sig start known depth lemmas step s upto spent inside searched shallow all =
+    search_of c sig start known depth lemmas step s upto searched shallow (omega arith)
+    (λ d goal l before w. all goal (within_below c sig start d goal w))
+    (subst (IsEndFrom c sig start known depth lemmas s.found s.upto) (sym spent) (inr (all, subst (IsLastStep s.found) (sym upto) (searched.timely all))))
 
 -- a query is spent
-pub sweep_to_spent : (c : Parts) (sig : List ℕ) (known : List Bool) (depth lemmas step : ℕ) (s : Swept) (q : SpentQuery) → steps_up_to s.upto ≡ step → s.spent ≡ Some q
-    → step ≤ depth → IsSearched c sig known step s.found → All (λ (f : FoundGoal). f.step ≤ depth) s.found → IsSpentQuery c sig known s.found step lemmas q
-    → IsSweep c sig known depth lemmas s
-sweep_to_spent c sig known depth lemmas step s q upto spent inside searched shallow query =
-    sweep_of c sig known depth lemmas step s upto searched shallow (omega arith)
+pub search_to_spent : (c : Parts) (sig : List ℕ) (start : Start) (known : List Bool) (depth lemmas step : ℕ) (s : Swept) (q : SpentQuery) → steps_up_to s.upto ≡ step → s.spent ≡ Some q
+    → step ≤ depth → IsSearched c sig start known step s.found → All (λ (f : FoundGoal). f.step ≤ depth) s.found → IsSpentFrom c sig start known s.found step lemmas q
+    → IsSearchFrom c sig start known depth lemmas s
+search_to_spent c sig start known depth lemmas step s q upto spent inside searched shallow query =
+    search_of c sig start known depth lemmas step s upto searched shallow (omega arith)
     (λ d goal l before w. (
     let sooner : d < q.step = subst (IsBefore d) spent before in
     searched.whole d goal (omega (arith, sooner, query.step_is)) w
     ))
-    (subst (IsEnd c sig known depth lemmas s.found s.upto) (sym spent) (
+    (subst (IsEndFrom c sig start known depth lemmas s.found s.upto) (sym spent) (
       (let at : q.step ≤ depth = omega (arith, query.step_is) in at),
-      subst (λ (n : ℕ). IsSpentQuery c sig known s.found n lemmas q) (sym upto) query,
+      subst (λ (n : ℕ). IsSpentFrom c sig start known s.found n lemmas q) (sym upto) query,
     ))
 
 pub shallow_of : (step depth : ℕ) (found : List FoundGoal) → step ≤ depth → All (λ (f : FoundGoal). f.step ≤ step) found → All (λ (f : FoundGoal). f.step ≤ depth) found

@@ -1,4 +1,4 @@
--- What is known between the steps of a sweep.
+-- What is known between the steps of a search.
 use Rattle.std.proofs.Common.{◌≡◌, ◌≢◌, ℕ, ◌+◌, ◌-◌, ◌<◌, ◌≤◌, ◌^◌, Bool, true, List, [], ◌∷◌, ◌++◌, length, get_or, eqb, eq-eqb, refl, sym, ap, subst, ◌∙◌, arith, All, AllPairs, Contains, inl, inr}
 use Rattle.std.specs.Prelude.{◌↔◌}
 use Rattle.std.specs.List.Sorted.{IsStrictlyIncreasing}
@@ -10,27 +10,28 @@ use Rattle.std.proofs.lemmas.List.Quantifiers.{all_pairs_push, Any-push}
 use Rattle.std.proofs.lemmas.List.Folds.{list_any_at}
 use Rattle.std.proofs.lemmas.Map.Steps.{le-length_from_below}
 use Rattle.std.specs.List.{list_any}
-use Rattle.aig_model.specs.Meaning.{At, input_values}
+use Rattle.aig_model.specs.Meaning.{At, goal_of, input_values}
 use Rattle.aig_model.specs.declared.parts.Parts.{Parts}
 use Rattle.aig_model.specs.declared.trace.Trace.{Trace}
 use Rattle.aig_model.proofs.OneGoal.{goal_of-lt}
 use Rattle.lrat_text.specs.declared.proof.LratStep.{LratStep}
 use Rattle.sim_walk.proofs.Full.{distinct_below, all_contained}
 use Rattle.unroll.specs.declared.start.Start.{Start}
-use Rattle.unroll.specs.declared.start.Start.TheVariants.{Reset}
+use Rattle.unroll.specs.declared.start.Start.TheVariants as starts
+use Rattle.unroll.specs.Starts.{Allows}
 use Rattle.unroll.specs.Framing.{Framing, HasFrames}
 use Rattle.hop_search.specs.declared.hop.Hop.{Hop}
 use Rattle.hop_search.specs.Answers.{IsHop, IsNewGoal, IsNoMore}
 use Rattle.hop_search.proofs.NewGoals.{new_replays_lem}
-use Rattle.sweep_search.specs.Sweep.{IsMarked, IsSettled, AreAllSettled, IsFirstReached, AreNewGoals, goals_of}
+use Rattle.sweep_search.specs.Sweep.{IsMarked, IsSettled, AreAllSettled, IsWithin, EndsIn, ShowsFrom, IsFirstFrom, AreNewFrom, IsFirstReached, goals_of}
 use Rattle.sweep_search.specs.Steps.{IsSearched}
 use Rattle.sweep_search.specs.declared.swept.FoundGoal.{FoundGoal}
 use Rattle.sweep_search.proofs.Marks.{marked_below}
 
-pub searched_none : (c : Parts) (sig : List ℕ) (known : List Bool) → IsSearched c sig known 0 []
-searched_none c sig known = record {
+pub searched_none : (c : Parts) (sig : List ℕ) (start : Start) (known : List Bool) → IsSearched c sig start known 0 []
+searched_none c sig start known = record {
   news = record {
-    reached = All-nil (IsFirstReached c sig);
+    reached = All-nil (IsFirstFrom c sig start);
     new = All-nil (λ (f : FoundGoal). ¬ IsMarked known f.goal);
     once = λ i j d l m. absurd (omega arith);
     ordered = λ i j d l m. absurd (omega arith);
@@ -40,39 +41,81 @@ searched_none c sig known = record {
   timely = λ all. inl refl;
 }
 
--- ---- frames from reset
-pub from_reset : (c : Parts) (sig : List ℕ) (step : ℕ) (blocked : List ℕ) (lemmas : ℕ) (f : Framing) (hop : Hop) → HasFrames c Reset step f
-    → IsHop c sig f.start f.last blocked lemmas hop → IsHop c sig Reset step blocked lemmas hop
-from_reset c sig step blocked lemmas f hop frames h =
-    subst (λ (n : ℕ). IsHop c sig Reset n blocked lemmas hop) frames.last_is
-    (subst (λ (start : Start). IsHop c sig start f.last blocked lemmas hop) frames.start_is h)
+-- ---- from a start
+-- the goal is reached at a step from a state that the start allows
+pub record IsReachedFrom (c : Parts) (sig : List ℕ) (start : Start) (goal : ℕ) : Type 0 where
+  pub state : List Bool
+  pub allowed : Allows c start state
+  pub t : ℕ
+  pub at : At c sig state t goal
 
-pub still_framed : (c : Parts) (step : ℕ) (old new : Framing) → HasFrames c Reset step old → HasFrames c old.start old.last new → HasFrames c Reset step new
-still_framed c step old new before after =
-    subst (λ (n : ℕ). HasFrames c Reset n new) before.last_is (subst (λ (start : Start). HasFrames c start old.last new) before.start_is after)
+pub reached_from : (c : Parts) (sig : List ℕ) (start : Start) (d goal : ℕ) → IsWithin c sig start d goal → (r : IsReachedFrom c sig start goal) × (r.t ≤ d)
+reached_from c sig starts.Any d goal w = (record { state = w.0; allowed = w.1; t = w.2; at = w.4 }, w.3)
+reached_from c sig starts.Reset d goal w = (record { state = w.state; allowed = w.reset; t = w.t; at = w.at }, w.near)
+reached_from c sig (starts.State state) d goal w = (record { state = state; allowed = refl; t = w.0; at = w.2 }, w.1)
+
+within_from : (c : Parts) (sig : List ℕ) (start : Start) (d goal : ℕ) (r : IsReachedFrom c sig start goal) → r.t ≤ d → IsWithin c sig start d goal
+within_from c sig starts.Any d goal r near = (r.state, r.allowed, r.t, near, r.at)
+within_from c sig starts.Reset d goal r near = record { state = r.state; reset = r.allowed; t = r.t; near = near; at = r.at }
+within_from c sig (starts.State state) d goal r near = (r.t, near, subst (λ (s : List Bool). At c sig s r.t goal) r.allowed r.at)
+
+-- what a new goal's trace shows
+ends_in : (c : Parts) (sig : List ℕ) (start : Start) (step : ℕ) (blocked : List ℕ) (goal : ℕ) (trace : Trace) → IsNewGoal c sig start step blocked goal trace → EndsIn c sig trace goal
+ends_in c sig start step blocked goal trace new =
+    let last : length new.frames - 1 ≡ step = omega (arith, new.size) in
+    record { width = new.width; frames = new.frames; rows = new.rows; run = new.run; shows = ap (λ n. goal_of sig (get_or new.frames n [])) last ∙ new.shows }
+
+new_shows : (c : Parts) (sig : List ℕ) (start : Start) (step : ℕ) (blocked : List ℕ) (goal : ℕ) (trace : Trace) → IsNewGoal c sig start step blocked goal trace
+    → ShowsFrom c sig start trace goal
+new_shows c sig starts.Any step blocked goal trace new = (new.allowed, ends_in c sig starts.Any step blocked goal trace new)
+new_shows c sig starts.Reset step blocked goal trace new = new_replays_lem c sig step blocked goal trace new
+new_shows c sig (starts.State state) step blocked goal trace new = (new.allowed, ends_in c sig (starts.State state) step blocked goal trace new)
+
+-- a goal that a trace shows is below the number of goals
+shown_below : (c : Parts) (sig : List ℕ) (start : Start) (trace : Trace) (goal : ℕ) → ShowsFrom c sig start trace goal → goal < 2 ^ length sig
+shown_below c sig starts.Any trace goal s = subst (λ (g : ℕ). g < 2 ^ length sig) s.1.shows (goal_of-lt sig (get_or s.1.frames (length s.1.frames - 1) []))
+shown_below c sig starts.Reset trace goal s = subst (λ (g : ℕ). g < 2 ^ length sig) s.shows (goal_of-lt sig (get_or s.frames (length s.frames - 1) []))
+shown_below c sig (starts.State state) trace goal s = subst (λ (g : ℕ). g < 2 ^ length sig) s.1.shows (goal_of-lt sig (get_or s.1.frames (length s.1.frames - 1) []))
+
+-- ---- the frames of a search
+pub hop_at : (c : Parts) (sig : List ℕ) (start : Start) (step : ℕ) (blocked : List ℕ) (lemmas : ℕ) (f : Framing) (hop : Hop) → HasFrames c start step f
+    → IsHop c sig f.start f.last blocked lemmas hop → IsHop c sig start step blocked lemmas hop
+hop_at c sig start step blocked lemmas f hop frames h =
+    subst (λ (n : ℕ). IsHop c sig start n blocked lemmas hop) frames.last_is
+    (subst (λ (s : Start). IsHop c sig s f.last blocked lemmas hop) frames.start_is h)
+
+pub still_framed : (c : Parts) (start : Start) (step : ℕ) (old new : Framing) → HasFrames c start step old → HasFrames c old.start old.last new → HasFrames c start step new
+still_framed c start step old new before after =
+    subst (λ (n : ℕ). HasFrames c start n new) before.last_is (subst (λ (s : Start). HasFrames c s old.last new) before.start_is after)
+
+-- frames are from their own start
+pub own_frames : (c : Parts) (start : Start) (step : ℕ) (f : Framing) → HasFrames c start step f → HasFrames c f.start step f
+own_frames c start step f h = record { framing = h.framing; circuit = h.circuit; start_is = refl; last_is = h.last_is }
 
 -- ---- goals are below their number
+pub first_below : (c : Parts) (sig : List ℕ) (start : Start) (f : FoundGoal) → IsFirstFrom c sig start f → f.goal < 2 ^ length sig
+first_below c sig start f r = shown_below c sig start f.trace f.goal r.shows
+
 pub reached_below : (c : Parts) (sig : List ℕ) (f : FoundGoal) → IsFirstReached c sig f → f.goal < 2 ^ length sig
-reached_below c sig f r =
-    subst (λ (g : ℕ). g < 2 ^ length sig) r.shows.shows (goal_of-lt sig (get_or r.shows.frames (length r.shows.frames - 1) []))
+reached_below c sig f r = first_below c sig starts.Reset f r
 
-pub found_below : (c : Parts) (sig : List ℕ) (known : List Bool) (found : List FoundGoal) → AreNewGoals c sig known found
+pub found_below : (c : Parts) (sig : List ℕ) (start : Start) (known : List Bool) (found : List FoundGoal) → AreNewFrom c sig start known found
     → All (λ (f : FoundGoal). f.goal < 2 ^ length sig) found
-found_below c sig known found news = All-weaker (IsFirstReached c sig) (λ (f : FoundGoal). f.goal < 2 ^ length sig) (reached_below c sig) found news.reached
+found_below c sig start known found news = All-weaker (IsFirstFrom c sig start) (λ (f : FoundGoal). f.goal < 2 ^ length sig) (first_below c sig start) found news.reached
 
-pub settled_below : (c : Parts) (sig : List ℕ) (known : List Bool) (found : List FoundGoal) (goal : ℕ) → length known ≡ 2 ^ length sig → AreNewGoals c sig known found
+pub settled_below : (c : Parts) (sig : List ℕ) (start : Start) (known : List Bool) (found : List FoundGoal) (goal : ℕ) → length known ≡ 2 ^ length sig → AreNewFrom c sig start known found
     → IsSettled known found goal → goal < 2 ^ length sig
-settled_below c sig known found goal size news s =
+settled_below c sig start known found goal size news s =
     elim s [
       | inl marked ↦ omega (arith, marked_below known goal marked, size)
       | inr has ↦ All-contains (λ g. g < 2 ^ length sig) (goals_of found) goal
-          (All-map (λ g. g < 2 ^ length sig) (λ (f : FoundGoal). f.goal) found (found_below c sig known found news)) has
+          (All-map (λ g. g < 2 ^ length sig) (λ (f : FoundGoal). f.goal) found (found_below c sig start known found news)) has
     ]
 
-pub blocked_below : (c : Parts) (sig : List ℕ) (known : List Bool) (found : List FoundGoal) (blocked : List ℕ) → length known ≡ 2 ^ length sig
-    → AreNewGoals c sig known found → ((goal : ℕ) → Contains blocked goal ↔ IsSettled known found goal) → All (λ goal. goal < 2 ^ length sig) blocked
-blocked_below c sig known found blocked size news settled =
-    All-weaker (Contains blocked) (λ goal. goal < 2 ^ length sig) (λ goal has. settled_below c sig known found goal size news ((settled goal).0 has)) blocked
+pub blocked_below : (c : Parts) (sig : List ℕ) (start : Start) (known : List Bool) (found : List FoundGoal) (blocked : List ℕ) → length known ≡ 2 ^ length sig
+    → AreNewFrom c sig start known found → ((goal : ℕ) → Contains blocked goal ↔ IsSettled known found goal) → All (λ goal. goal < 2 ^ length sig) blocked
+blocked_below c sig start known found blocked size news settled =
+    All-weaker (Contains blocked) (λ goal. goal < 2 ^ length sig) (λ goal has. settled_below c sig start known found goal size news ((settled goal).0 has)) blocked
     (All-contains_itself blocked)
 
 rising_apart : (goals : List ℕ) → IsStrictlyIncreasing goals → AllPairs (λ x y. x ≢ y) goals
@@ -85,20 +128,20 @@ has_test : (goals : List ℕ) (q : ℕ) → Contains goals q → list_any (eqb q
 has_test goals q has = list_any_at (eqb q) goals has.0 q has.1 (eq-eqb q (get_or goals has.0 q) (sym has.2))
 
 -- there are as many goals in the list as there are at all
-pub all_settled : (c : Parts) (sig : List ℕ) (known : List Bool) (found : List FoundGoal) (blocked : List ℕ) → length known ≡ 2 ^ length sig
-    → AreNewGoals c sig known found → ((goal : ℕ) → Contains blocked goal ↔ IsSettled known found goal) → IsStrictlyIncreasing blocked
+pub all_settled : (c : Parts) (sig : List ℕ) (start : Start) (known : List Bool) (found : List FoundGoal) (blocked : List ℕ) → length known ≡ 2 ^ length sig
+    → AreNewFrom c sig start known found → ((goal : ℕ) → Contains blocked goal ↔ IsSettled known found goal) → IsStrictlyIncreasing blocked
     → length blocked ≡ 2 ^ length sig → AreAllSettled sig known found
-all_settled c sig known found blocked size news settled rising full = λ goal inside. (
-    (settled goal).0 (all_contained blocked (2 ^ length sig) goal (rising_apart blocked rising) (blocked_below c sig known found blocked size news settled) (omega (arith, full)) inside)
+all_settled c sig start known found blocked size news settled rising full = λ goal inside. (
+    (settled goal).0 (all_contained blocked (2 ^ length sig) goal (rising_apart blocked rising) (blocked_below c sig start known found blocked size news settled) (omega (arith, full)) inside)
     )
 
 -- there are fewer goals in the list, so one is left
-pub some_left : (c : Parts) (sig : List ℕ) (known : List Bool) (found : List FoundGoal) (blocked : List ℕ) → length known ≡ 2 ^ length sig
-    → AreNewGoals c sig known found → ((goal : ℕ) → Contains blocked goal ↔ IsSettled known found goal) → IsStrictlyIncreasing blocked
+pub some_left : (c : Parts) (sig : List ℕ) (start : Start) (known : List Bool) (found : List FoundGoal) (blocked : List ℕ) → length known ≡ 2 ^ length sig
+    → AreNewFrom c sig start known found → ((goal : ℕ) → Contains blocked goal ↔ IsSettled known found goal) → IsStrictlyIncreasing blocked
     → length blocked ≢ 2 ^ length sig → ¬ AreAllSettled sig known found
-some_left c sig known found blocked size news settled rising other all =
+some_left c sig start known found blocked size news settled rising other all =
     let least : 2 ^ length sig ≤ length blocked = le-length_from_below blocked (2 ^ length sig) (λ q inside. has_test blocked q ((settled q).1 (all q inside))) in
-    let most : length blocked ≤ 2 ^ length sig = distinct_below blocked (2 ^ length sig) (rising_apart blocked rising) (blocked_below c sig known found blocked size news settled) in
+    let most : length blocked ≤ 2 ^ length sig = distinct_below blocked (2 ^ length sig) (rising_apart blocked rising) (blocked_below c sig start known found blocked size news settled) in
     other (omega (arith, least, most))
 
 -- ---- each goal is found once
@@ -116,37 +159,37 @@ goals_apart found once = λ i j d l m. (
     )
 
 -- so there are no more than goals at all
-pub few_found : (c : Parts) (sig : List ℕ) (known : List Bool) (found : List FoundGoal) → AreNewGoals c sig known found → length found ≤ 2 ^ length sig
-few_found c sig known found news =
+pub few_found : (c : Parts) (sig : List ℕ) (start : Start) (known : List Bool) (found : List FoundGoal) → AreNewFrom c sig start known found → length found ≤ 2 ^ length sig
+few_found c sig start known found news =
     let apart : AllPairs (λ x y. x ≢ y) (goals_of found) = goals_apart found news.once in
     omega (
       arith,
       length-map found (λ (f : FoundGoal). f.goal),
       distinct_below (goals_of found) (2 ^ length sig) apart
-          (All-map (λ g. g < 2 ^ length sig) (λ (f : FoundGoal). f.goal) found (found_below c sig known found news)),
+          (All-map (λ g. g < 2 ^ length sig) (λ (f : FoundGoal). f.goal) found (found_below c sig start known found news)),
     )
 
 -- ---- a goal that is new at a step
-first_reached : (c : Parts) (sig : List ℕ) (known : List Bool) (step : ℕ) (found : List FoundGoal) (blocked : List ℕ) (goal : ℕ) (trace : Trace)
-    → IsSearched c sig known step found → ((g : ℕ) → Contains blocked g ↔ IsSettled known found g) → IsNewGoal c sig Reset step blocked goal trace
-    → IsFirstReached c sig (record { goal = goal; step = step; trace = trace })
-first_reached c sig known step found blocked goal trace searched settled new = record {
-  shows = new_replays_lem c sig step blocked goal trace new;
+first_reached : (c : Parts) (sig : List ℕ) (start : Start) (known : List Bool) (step : ℕ) (found : List FoundGoal) (blocked : List ℕ) (goal : ℕ) (trace : Trace)
+    → IsSearched c sig start known step found → ((g : ℕ) → Contains blocked g ↔ IsSettled known found g) → IsNewGoal c sig start step blocked goal trace
+    → IsFirstFrom c sig start (record { goal = goal; step = step; trace = trace })
+first_reached c sig start known step found blocked goal trace searched settled new = record {
+  shows = new_shows c sig start step blocked goal trace new;
   rows = ap length (sym new.rows) ∙ (length-map new.frames (input_values c) ∙ new.size);
   least = λ d w. elim (cases_lt d step) [ inl lt ↦ absurd (new.unsettled ((settled goal).1 (searched.whole d goal lt w))) | inr ge ↦ ge ];
 }
 
-pub searched_new : (c : Parts) (sig : List ℕ) (known : List Bool) (step : ℕ) (found : List FoundGoal) (blocked : List ℕ) (goal : ℕ) (trace : Trace)
-    → IsSearched c sig known step found → ((g : ℕ) → Contains blocked g ↔ IsSettled known found g) → IsNewGoal c sig Reset step blocked goal trace
-    → IsSearched c sig known step (found ++ record { goal = goal; step = step; trace = trace } ∷ [])
-searched_new c sig known step found blocked goal trace searched settled new =
+pub searched_new : (c : Parts) (sig : List ℕ) (start : Start) (known : List Bool) (step : ℕ) (found : List FoundGoal) (blocked : List ℕ) (goal : ℕ) (trace : Trace)
+    → IsSearched c sig start known step found → ((g : ℕ) → Contains blocked g ↔ IsSettled known found g) → IsNewGoal c sig start step blocked goal trace
+    → IsSearched c sig start known step (found ++ record { goal = goal; step = step; trace = trace } ∷ [])
+searched_new c sig start known step found blocked goal trace searched settled new =
     let f : FoundGoal = record { goal = goal; step = step; trace = trace } in
     let news = searched.news in
     let goals : goals_of (found ++ f ∷ []) ≡ goals_of found ++ goal ∷ [] = map_push (λ (x : FoundGoal). x.goal) found f in
     let unsettled : ¬ IsSettled known found goal = λ s. new.unsettled ((settled goal).1 s) in
     record {
       news = record {
-        reached = All-push (IsFirstReached c sig) found f news.reached (first_reached c sig known step found blocked goal trace searched settled new);
+        reached = All-push (IsFirstFrom c sig start) found f news.reached (first_reached c sig start known step found blocked goal trace searched settled new);
         new = All-push (λ (x : FoundGoal). ¬ IsMarked known x.goal) found f news.new (λ marked. unsettled (inl marked));
         once = all_pairs_push (λ (x y : FoundGoal). x.goal ≢ y.goal) found f news.once (λ k d l e. unsettled (inr (subst (Contains (goals_of found)) e (has_goal found k d l))));
         ordered = all_pairs_push (λ (x y : FoundGoal). x.step ≤ y.step) found f news.ordered (λ k d l. All-get_or (λ (x : FoundGoal). x.step ≤ step) found k d l searched.near);
@@ -160,18 +203,28 @@ searched_new c sig known step found blocked goal trace searched settled new =
     }
 
 -- ---- a step at which nothing more is new
-pub searched_whole : (c : Parts) (sig : List ℕ) (known : List Bool) (step lemmas : ℕ) (found : List FoundGoal) (blocked : List ℕ) (proof : List LratStep)
-    → IsSearched c sig known step found → ((g : ℕ) → Contains blocked g ↔ IsSettled known found g) → IsNoMore c sig Reset step blocked lemmas proof
-    → ¬ AreAllSettled sig known found → IsSearched c sig known (step + 1) found
-searched_whole c sig known step lemmas found blocked proof searched settled none left = record {
+-- a goal that is reached before the next step
+settled_by : (c : Parts) (sig : List ℕ) (start : Start) (known : List Bool) (step lemmas : ℕ) (found : List FoundGoal) (blocked : List ℕ) (proof : List LratStep) (goal : ℕ)
+    → IsSearched c sig start known step found → ((g : ℕ) → Contains blocked g ↔ IsSettled known found g) → IsNoMore c sig start step blocked lemmas proof
+    → (r : IsReachedFrom c sig start goal) → r.t ≤ step → IsSettled known found goal
+settled_by c sig start known step lemmas found blocked proof goal searched settled none r near =
+    elim (cases_lt r.t step) [
+      | inl lt ↦ searched.whole r.t goal lt (within_from c sig start r.t goal r (omega arith))
+      | inr ge ↦ (
+          let now : r.t ≡ step = omega (arith, near) in
+          (settled goal).0 (none.all_settled r.state goal r.allowed (subst (λ (t : ℕ). At c sig r.state t goal) now r.at))
+          )
+    ]
+
+pub searched_whole : (c : Parts) (sig : List ℕ) (start : Start) (known : List Bool) (step lemmas : ℕ) (found : List FoundGoal) (blocked : List ℕ) (proof : List LratStep)
+    → IsSearched c sig start known step found → ((g : ℕ) → Contains blocked g ↔ IsSettled known found g) → IsNoMore c sig start step blocked lemmas proof
+    → ¬ AreAllSettled sig known found → IsSearched c sig start known (step + 1) found
+searched_whole c sig start known step lemmas found blocked proof searched settled none left = record {
   news = searched.news;
   near = All-weaker (λ (f : FoundGoal). f.step ≤ step) (λ (f : FoundGoal). f.step ≤ step + 1) (λ f l. omega arith) found searched.near;
-  whole = λ d g l w. elim (cases_lt w.t step) [
-    | inl lt ↦ searched.whole w.t g lt (record { state = w.state; reset = w.reset; t = w.t; near = omega arith; at = w.at })
-    | inr ge ↦ (
-        let now : w.t ≡ step = omega (arith, w.near) in
-        (settled g).0 (none.all_settled w.state g w.reset (subst (λ (t : ℕ). At c sig w.state t g) now w.at))
-        )
-  ];
+  whole = λ d g l w. (
+      let r = reached_from c sig start d g w in
+      settled_by c sig start known step lemmas found blocked proof g searched settled none r.0 (omega (arith, r.1))
+      );
   timely = λ all. absurd (left all);
 }

@@ -1,23 +1,23 @@
--- The sweep between its steps.
+-- A search between its steps.
 use Rattle.std.specs.Prelude.{ℕ, ◌+◌, ◌<◌, ◌≤◌, Bool, List, All}
-use Rattle.aig_model.specs.Meaning.{Within}
 use Rattle.aig_model.specs.declared.parts.Parts.{Parts}
-use Rattle.sweep_search.specs.Sweep.{IsSettled, AreAllSettled, AreNewGoals, IsLastStep, IsSpentQuery}
+use Rattle.unroll.specs.declared.start.Start.{Start}
+use Rattle.sweep_search.specs.Sweep.{IsSettled, AreAllSettled, IsWithin, AreNewFrom, IsLastStep, IsSpentFrom}
 use Rattle.sweep_search.specs.declared.search.StepEnd.{StepEnd}
 use Rattle.sweep_search.specs.declared.search.StepEnd.TheVariants.{Whole, AllSettled, Spent}
 use Rattle.sweep_search.specs.declared.swept.FoundGoal.{FoundGoal}
 
 -- so many steps are searched whole, and the next one may be begun
-pub record IsSearched (c : Parts) (sig : List ℕ) (known : List Bool) (step : ℕ) (found : List FoundGoal) : Type 0 where
-  pub news : AreNewGoals c sig known found
+pub record IsSearched (c : Parts) (sig : List ℕ) (start : Start) (known : List Bool) (step : ℕ) (found : List FoundGoal) : Type 0 where
+  pub news : AreNewFrom c sig start known found
   pub near : All (λ (f : FoundGoal). f.step ≤ step) found
-  pub whole : (d goal : ℕ) → d < step → Within c sig d goal → IsSettled known found goal
+  pub whole : (d goal : ℕ) → d < step → IsWithin c sig start d goal → IsSettled known found goal
   -- the steps before left some goal
   pub timely : AreAllSettled sig known found → IsLastStep found step
 
 -- how the search of the next step ends
-abbrev pub IsStepEnd : Parts → List ℕ → List Bool → ℕ → ℕ → List FoundGoal → StepEnd → Type 0
-IsStepEnd c sig known step lemmas found Whole =
-    All (λ (f : FoundGoal). f.step ≤ step) found × IsSearched c sig known (step + 1) found × (¬ AreAllSettled sig known found)
-IsStepEnd c sig known step lemmas found AllSettled = IsSearched c sig known step found × AreAllSettled sig known found
-IsStepEnd c sig known step lemmas found (Spent q) = IsSearched c sig known step found × IsSpentQuery c sig known found step lemmas q
+abbrev pub IsStepEnd : Parts → List ℕ → Start → List Bool → ℕ → ℕ → List FoundGoal → StepEnd → Type 0
+IsStepEnd c sig start known step lemmas found Whole =
+    All (λ (f : FoundGoal). f.step ≤ step) found × IsSearched c sig start known (step + 1) found × (¬ AreAllSettled sig known found)
+IsStepEnd c sig start known step lemmas found AllSettled = IsSearched c sig start known step found × AreAllSettled sig known found
+IsStepEnd c sig start known step lemmas found (Spent q) = IsSearched c sig start known step found × IsSpentFrom c sig start known found step lemmas q

@@ -1,4 +1,4 @@
-//! The sweep: every goal that is reached within so many steps from reset.
+//! The sweep: every goal that is reached within so many steps from reset; and the hop, the same from a state.
 #![tactic(auto)]
 
 mod blocked;
@@ -8,5 +8,5 @@ mod steps;
 mod swept;
 
 pub use blocked::settled_goals;
-pub use steps::sweep;
+pub use steps::{hop_from, sweep};
 pub use swept::{FoundGoal, FoundGoals, SpentQuery, Swept};

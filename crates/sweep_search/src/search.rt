@@ -2,7 +2,6 @@
 
 ghost use Rattle.std.specs.Prelude.{◌≡◌, ◌<◌, ◌≤◌, ◌+◌, ◌^◌, All, length, IfOk, OnOk};
 ghost use Rattle.unroll.specs.Framing.{HasFrames};
-ghost use Rattle.unroll.specs.declared.start.Start.TheVariants.{Reset};
 ghost use Rattle.sweep_search.specs.Steps.{IsSearched, IsStepEnd};
 
 use crate::blocked::settled_goals;
@@ -21,7 +20,7 @@ pub enum StepEnd {
     Spent(SpentQuery),
 }
 
-/// Asks for goals at a step until nothing is new there.
+/// Asks for goals at the last step of the frames until nothing is new there.
 pub fn search_step(
     alloc: Global,
     circuit: &Circuit,
@@ -34,12 +33,12 @@ pub fn search_step(
 ) -> Result<StepEnd, OutOfMemory>
     requires circuit { signals.now.circuit ≡ circuit.now }
     requires goals { length known.now ≡ 2 ^ length signals.now.lits }
-    requires frames { HasFrames circuit.now Reset step framed.old }
+    requires frames { HasFrames circuit.now framed.old.start step framed.old }
     requires some { 1 ≤ lemmas }
     requires few { lemmas ≤ 2 ^ 60 }
-    requires searched { IsSearched circuit.now signals.now.lits known.now step found.old }
-    ensures frames { OnOk result (HasFrames circuit.now Reset step framed.new) }
-    ensures end { IfOk result (IsStepEnd circuit.now signals.now.lits known.now step lemmas found.new) }
+    requires searched { IsSearched circuit.now signals.now.lits framed.old.start known.now step found.old }
+    ensures frames { OnOk result (HasFrames circuit.now framed.old.start step framed.new) }
+    ensures end { IfOk result (IsStepEnd circuit.now signals.now.lits framed.old.start known.now step lemmas found.new) }
 {
     let goals = signals.goals() as usize;
     'queries: loop {

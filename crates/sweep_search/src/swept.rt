@@ -1,10 +1,11 @@
-//! What a sweep finds.
+//! What a sweep or a hop finds.
 
 use aig_model::{Goals, Trace};
 use ketch_base::Sequence;
 use lrat_text::Proof;
 
-/// A goal, the least step at which it is reached from reset, and a trace of `step + 1` rows that shows it.
+/// A goal, the least step at which it is reached from where the search starts, and a trace of `step + 1` rows from there
+/// that shows it.
 #[derive(Debug, Drop)]
 pub struct FoundGoal {
     pub goal: u32,
@@ -23,7 +24,7 @@ pub struct SpentQuery {
 }
 
 /// The goals that are new, in the order in which they were found. `upto` is the last step that was searched until
-/// nothing was new there; None where there is none. `spent` is the query at which the sweep stopped, if one ran out.
+/// nothing was new there; None where there is none. `spent` is the query at which the search stopped, if one ran out.
 #[derive(Debug, Drop)]
 pub struct Swept {
     pub found: FoundGoals,
