@@ -1,0 +1,9 @@
+pub mod Counts
+pub mod Cutting
+pub mod Forms
+pub mod History
+pub mod Laws
+pub mod Posting
+pub mod Searching
+pub mod Settling
+pub mod Telling

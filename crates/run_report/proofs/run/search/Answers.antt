@@ -1,0 +1,39 @@
+use Rattle.std.proofs.Common.{◌≡◌, ◌++◌, List, map, sym, subst, Option, None}
+use Rattle.std.specs.Prelude.{option_map}
+use Rattle.report_text.specs.declared.report.Block.{Block}
+use Rattle.run_report.specs.declared.posts.Finding.{Finding}
+use Rattle.run_report.specs.Posts.{IsHistory, entries_of, posts_of}
+use Rattle.run_report.specs.Ends.{AreTold}
+use Rattle.run_report.specs.Run.{sweep_block, sweep_ends, sweep_finding}
+use Rattle.run_report.proofs.Searching.{IsSearched, searched_history, searched_told, zeros_below}
+use Rattle.run_report.proofs.run.search.Goals as goal
+
+pub marks-requires : goal.marks-requires
+marks-requires c = zeros_below c.args.circuit.now c.args.signals.now.lits c.args.options.now.length c.in_ok-visits.visits c.in_ok-findings.findings c.in_ok-visits.ensures c.in_ok-findings.ensures
+
+-- what is known after both
+searched : (c : goal.After-drop-visits-inside-2) → IsSearched c.args.circuit.now c.args.signals.now.lits c.args.options.now c.in_ok-visits.visits c.in_ok-findings.findings c.in_ok-known.known c.in_ok-found.field-0
+searched c = record {
+  runnable = c.requires.options;
+  walked = c.in_ok-visits.ensures;
+  zip = c.in_ok-findings.ensures;
+  marks = c.in_ok-known.ensures.marks;
+  swept = c.in_ok-found.ensures;
+}
+
+findings_are : (c : goal.After-drop-visits-inside-2) → c.add_found.new.findings ≡ c.in_ok-findings.findings ++ map sweep_finding c.in_ok-found.field-0.found
+findings_are c = cc (c.in_ok-add_found.ensures, c.in_ok-found.found-is)
+
+spent_is : (c : goal.After-drop-visits-inside-2) → c.sweep_block.result ≡ option_map sweep_block c.in_ok-found.field-0.spent
+spent_is c = cc (c.sweep_block.ensures, c.in_ok-found.spent-is)
+
+pub returns-clause-history : goal.returns-clause-history
+returns-clause-history c =
+    subst (λ (fs : List Finding). IsHistory c.args.circuit.now c.args.signals.now.lits c.args.options.now None (posts_of fs)) (sym (findings_are c))
+    (searched_history c.args.circuit.now c.args.signals.now.lits c.args.options.now c.in_ok-visits.visits c.in_ok-findings.findings c.in_ok-known.known c.in_ok-found.field-0 (searched c))
+
+pub returns-clause-told : goal.returns-clause-told
+returns-clause-told c =
+    subst (λ (fs : List Finding). AreTold c.args.circuit.now c.args.signals.now.lits c.args.options.now (entries_of (posts_of fs)) (sweep_ends c.sweep_block.result)) (sym (findings_are c))
+    (subst (λ (x : Option Block). AreTold c.args.circuit.now c.args.signals.now.lits c.args.options.now (entries_of (posts_of (c.in_ok-findings.findings ++ map sweep_finding c.in_ok-found.field-0.found))) (sweep_ends x)) (sym (spent_is c))
+    (searched_told c.args.circuit.now c.args.signals.now.lits c.args.options.now c.in_ok-visits.visits c.in_ok-findings.findings c.in_ok-known.known c.in_ok-found.field-0 (searched c)))

@@ -1,0 +1,15 @@
+pub mod Blocks
+pub mod Bounds
+pub mod Ended
+pub mod Ends
+pub mod Found
+pub mod Invariants
+pub mod Posts
+pub mod Queries
+pub mod Ranges
+pub mod Report
+pub mod Refutes
+pub mod Run
+pub mod Scope
+pub mod Seeds
+pub mod Summed

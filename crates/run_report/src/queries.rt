@@ -1,0 +1,89 @@
+//! The queries, seeds and clauses that the ends leave in a report.
+
+ghost use Rattle.std.specs.Prelude.{◌≡◌, ◌++◌, IfOk, OnOk};
+ghost use Rattle.run_report.specs.Ends.{optional, inv_of};
+ghost use Rattle.run_report.specs.Ended.{HaveLiterals, hop_blocks, invs_from, prover_blocks, seeds_of};
+
+use crate::ends::{BatchEnds, ProverEnd};
+use ketch_base::OutOfMemory;
+use report_text::{Block, Blocks, Inv, Invs, SeedLines, proof_literals_fit};
+use std::alloc::Global;
+
+/// Says what the type of a query's proof keeps.
+pub(crate) fn literals_fit(spent: &Option<Block>)
+    ensures { HaveLiterals spent.now }
+{
+    if let Some(block) = spent {
+        proof_literals_fit(&block.proof);
+    }
+}
+
+pub(crate) fn add_optional(blocks: &mut Blocks, block: Option<Block>) -> Result<(), OutOfMemory>
+    ensures { OnOk result (blocks.new ≡ blocks.old ++ optional block) }
+{
+    if let Some(block) = block {
+        blocks.push(block)?;
+    }
+    Ok(())
+}
+
+/// The seeds of the batches. Their spent queries come after those that are there.
+pub(crate) fn add_batches(
+    alloc: Global,
+    spents: &mut Blocks,
+    batches: BatchEnds,
+) -> Result<SeedLines, OutOfMemory>
+    ensures seeds { IfOk result (λ seeds. seeds ≡ seeds_of batches) }
+    ensures spents { OnOk result (spents.new ≡ spents.old ++ hop_blocks batches) }
+{
+    let mut seeds = SeedLines::new(alloc);
+    for end in batches.into_vec() {
+        seeds.push(end.seed)?;
+        add_optional(spents, end.spent)?;
+    }
+    Ok(seeds)
+}
+
+fn add_all(spents: &mut Blocks, more: Blocks) -> Result<(), OutOfMemory>
+    ensures { OnOk result (spents.new ≡ spents.old ++ more) }
+{
+    for block in more.into_vec() {
+        spents.push(block)?;
+    }
+    Ok(())
+}
+
+/// The clauses of the prover. Its spent queries come last.
+pub(crate) fn add_prover(spents: &mut Blocks, prover: ProverEnd) -> Result<Option<Inv>, OutOfMemory>
+    ensures inv { IfOk result (λ inv. inv ≡ inv_of prover) }
+    ensures spents { OnOk result (spents.new ≡ spents.old ++ prover_blocks prover) }
+{
+    match prover {
+        ProverEnd::NotRun | ProverEnd::AllSettled => Ok(None),
+        ProverEnd::Spent(block) => {
+            spents.push(block)?;
+            Ok(None)
+        }
+        ProverEnd::Whole { inv, spents: more } => {
+            add_all(spents, more)?;
+            Ok(Some(inv))
+        }
+    }
+}
+
+/// The clauses are told where some goal is unreachable.
+pub(crate) fn invs_from(
+    alloc: Global,
+    unreachable: usize,
+    inv: Option<Inv>,
+) -> Result<Invs, OutOfMemory>
+    ensures { IfOk result (λ invs. invs ≡ invs_from unreachable inv) }
+{
+    let mut invs = Invs::new(alloc);
+    if unreachable > 0 {
+        if let Some(inv) = inv {
+            invs.push(inv)?;
+        }
+    }
+    Ok(invs)
+}
