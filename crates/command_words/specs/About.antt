@@ -19,7 +19,7 @@ usage_text =
 abbrev pub options_text : List ℕ
 options_text =
     codes "Options of cover, in any order, each with a number:\n\n"
-    ++ codes "  --depth     0                          steps of the search from reset [0]\n"
+    ++ codes "  --depth     0..200                     steps of the search from reset [10]\n"
     ++ codes "  --batches   0                          batches of random walks [0]\n"
     ++ codes "  --length    1..100000                  steps of a walk [1000]\n"
     ++ codes "  --stall     1..100000                  steps after which a walk that finds nothing ends [100]\n"

@@ -30,7 +30,7 @@ setting_of name =
     else None
 
 abbrev pub scale_of : Setting → Scale
-scale_of Depth = record { least = 0; greatest = 0; unset = 0 }
+scale_of Depth = record { least = 0; greatest = 200; unset = 10 }
 scale_of Batches = record { least = 0; greatest = 0; unset = 0 }
 scale_of Length = record { least = 1; greatest = 100000; unset = 1000 }
 scale_of Stall = record { least = 1; greatest = 100000; unset = 100 }

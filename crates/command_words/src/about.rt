@@ -16,7 +16,7 @@ const HELP: &str = "Usage: ketch COMMAND ..
 
 Options of cover, in any order, each with a number:
 
-  --depth     0                          steps of the search from reset [0]
+  --depth     0..200                     steps of the search from reset [10]
   --batches   0                          batches of random walks [0]
   --length    1..100000                  steps of a walk [1000]
   --stall     1..100000                  steps after which a walk that finds nothing ends [100]

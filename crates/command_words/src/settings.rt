@@ -128,9 +128,8 @@ fn scale_of(setting: Setting) -> Scale
     ensures { result ≡ scale_of setting }
 {
     match setting {
-        Setting::Depth | Setting::Batches | Setting::Strength | Setting::Rounds => scale_from(
-            0, 0, 0,
-        ),
+        Setting::Depth => scale_from(0, 200, 10),
+        Setting::Batches | Setting::Strength | Setting::Rounds => scale_from(0, 0, 0),
         Setting::Length => scale_from(1, 100_000, 1000),
         Setting::Stall => scale_from(1, 100_000, 100),
         Setting::Hop => scale_from(0, 50, 4),

@@ -2,12 +2,9 @@ pub mod Behind
 pub mod CircuitTexts
 pub mod CoverPromised
 pub mod Exported
-pub mod Filled
-pub mod Formed
 pub mod GoalsPromised
 pub mod LratPromised
 pub mod Opening
-pub mod Posted
 pub mod Promised
 pub mod Reading
 pub mod ReplayPromised
@@ -15,6 +12,5 @@ pub mod ReplayRead
 pub mod Rooms
 pub mod Stopped
 pub mod SubjectPromised
-pub mod Told
 pub mod WhereTold
 pub mod Writing

@@ -1,13 +1,18 @@
--- Why a cover command isn't begun once its files were read.
-use Rattle.std.proofs.Common.{ℕ, List}
+-- Why a cover command is or isn't begun once its files were read.
+use Rattle.std.proofs.Common.{ℕ, ◌+◌, ◌*◌, ◌≤◌, max, List, arith}
+use Rattle.std.proofs.lemmas.Nat.{mul-le}
 use Rattle.aig_model.specs.declared.parts.Parts.{Parts}
 use Rattle.command_words.specs.declared.stop.Stop.{Stop}
 use Rattle.command_words.specs.declared.stop.Stop.TheVariants as stops
+use Rattle.command_words.specs.Settings.{AreOnScales}
 use Rattle.cover_run.specs.Answer.{EarlyCause}
-use Rattle.cover_run.specs.Covering.{HasCircuit, HasSignals}
+use Rattle.cover_run.specs.Covering.{HasCircuit, HasSignals, HasRoom, frames_of}
 use Rattle.cover_run.specs.Seen.{DeskSeen}
 use Rattle.cover_run.specs.Steps.{RoomCause}
 use Rattle.command_words.specs.Words.{CoverCall, Cover}
+use Rattle.run_report.specs.Ranges.{AreRunnable}
+use Rattle.sim_walk.specs.declared.options.Options.{Options}
+use Rattle.unroll.specs.Frames.{vars_before}
 
 pub room_stop : (call : CoverCall) (d : DeskSeen) (c : Parts) (sig : List ℕ) (stop : Stop) → HasCircuit call.subject d c → HasSignals call.subject d c sig
     → RoomCause call.options c stop → EarlyCause (Cover call) d stop
@@ -20,3 +25,20 @@ room_stop call d c sig (stops.BadSignals line kind) has also cause = absurd caus
 room_stop call d c sig (stops.Refused why) has also cause = absurd cause
 room_stop call d c sig stops.CannotWrite has also cause = absurd cause
 room_stop call d c sig stops.OutOfMemory has also cause = absurd cause
+
+-- ---- why it can be begun
+-- the frames of the sweep are at most those of the longest search
+pub search_fits : (o : Options) (c : Parts) → HasRoom o c → vars_before c (o.depth + 1) ≤ 4000000
+search_fits o c room =
+    let fits : frames_of o c ≤ 4000000 = room.frames in
+    let less : (o.depth + 1) * (c.top + 1) ≤ (max o.depth o.hop + 1) * (c.top + 1) = mul-le (o.depth + 1) (c.top + 1) (max o.depth o.hop + 1) (c.top + 1) (omega arith) (omega arith) in
+    omega arith
+
+pub runnable : (o : Options) → AreOnScales o → AreRunnable o
+runnable o on = record {
+  some = on.lemmas.0;
+  few = omega (arith, on.lemmas.1);
+  depth = omega (arith, on.depth.1);
+  batches = omega (arith, on.batches.1);
+  rounds = omega (arith, on.rounds.1);
+}

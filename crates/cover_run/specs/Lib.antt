@@ -1,16 +1,10 @@
 pub mod Answer
-pub mod Blocks
-pub mod Bounds
 pub mod Checking
 pub mod CircuitText
 pub mod Covering
 pub mod Exporting
 pub mod Files
-pub mod Found
-pub mod Posts
 pub mod Promises
 pub mod Replaying
-pub mod Report
 pub mod Seen
 pub mod Steps
-pub mod Summed

@@ -6,13 +6,14 @@ ghost use Rattle.cover_run.specs.Answer.{EarlyCause};
 ghost use Rattle.command_words.specs.Commands.{cover_call};
 ghost use Rattle.cover_run.specs.Covering.{HasRoom, IsCoverOutput};
 ghost use Rattle.cover_run.specs.Files.{files_of, IsAllRead, HasRead};
-ghost use Rattle.cover_run.specs.Report.{IsReport};
+ghost use Rattle.run_report.specs.Report.{IsReport};
+ghost use Rattle.run_report.specs.Scope.{today};
 ghost use Rattle.cover_run.specs.Seen.{seen};
 ghost use Rattle.cover_run.specs.Steps.{RoomCause};
 ghost use Rattle.command_words.specs.Stops.{is_of_devices};
+ghost use Rattle.command_words.specs.Settings.{AreOnScales};
 ghost use Rattle.command_words.specs.Words.{Cover as CoverMeaning};
 
-use crate::composing::compose;
 use crate::output::Output;
 use crate::subject::read_subject;
 use aig_model::{Circuit, Signals};
@@ -20,7 +21,8 @@ use command_words::{Cover, Measure, Stop};
 use ketch_base::OutOfMemory;
 use report_text::text_of;
 use run_io::Desk;
-use sim_walk::{Options, zero_walk};
+use run_report::run_engines;
+use sim_walk::Options;
 use std::alloc::Global;
 
 /// Whether the searches and walks that are asked for are within their limits.
@@ -47,11 +49,12 @@ fn report_of(
     signals: &Signals,
     options: &Options,
 ) -> Result<Output, OutOfMemory>
-    requires { signals.now.circuit ≡ circuit.now }
-    ensures report { IfOk result (λ output. (report : IsReport circuit.now signals.now.lits options.now output.bytes.items) × (output.settled ≡ nat_eq report.report.unsettled 0)) }
+    requires signals { signals.now.circuit ≡ circuit.now }
+    requires room { HasRoom options.now circuit.now }
+    requires options { AreOnScales options.now }
+    ensures report { IfOk result (λ output. (report : IsReport circuit.now signals.now.lits options.now today output.bytes.items) × (output.settled ≡ nat_eq report.report.unsettled 0)) }
 {
-    let visits = zero_walk(alloc, circuit, signals, options)?;
-    let report = compose(alloc, circuit, signals, options, &visits)?;
+    let report = run_engines(alloc, circuit, signals, options)?;
     let bytes = text_of(alloc, &report)?;
     Ok(Output {
         bytes,
@@ -61,6 +64,7 @@ fn report_of(
 
 /// What a cover command writes. Nothing is written yet.
 pub(crate) fn cover<D: Desk>(alloc: Global, desk: &mut D, call: &Cover<'_>) -> Result<Output, Stop>
+    requires { AreOnScales call.now.options }
     ensures text { HasSameTexts (D.state desk.old) (D.state desk.new) }
     ensures output { IfOk result (λ output.
         IsCoverOutput (cover_call call.now) (seen (D.state desk.old) (D.state desk.new)) output.bytes.items output.settled) }

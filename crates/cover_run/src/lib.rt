@@ -2,7 +2,6 @@
 #![tactic(auto)]
 
 mod checking;
-mod composing;
 mod covering;
 mod exporting;
 mod gate;
@@ -13,7 +12,6 @@ mod running;
 mod subject;
 
 pub use command_words::{CircuitKind, File, Measure, Misfit, Refusal, Status, Stop};
-pub use composing::compose;
 pub use gate::{Gate, OpenGate};
 pub use report_text::Report;
 pub use running::run;

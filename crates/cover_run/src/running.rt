@@ -8,7 +8,7 @@ ghost use Rattle.cover_run.specs.Files.{files_of, IsAllRead, HasRead};
 ghost use Rattle.cover_run.specs.Promises.{WrittenCause, Headline, Completeness, AcceptedCause, AcceptedComes, PrintedCause, PrintedComes, HasEnded, IsEarly, ReadFaultCause, NoFault, BadCircuitCause, BadCircuitComes, BadSignalsCause, BadSignalsComes, LimitCause, WithinLimits, AllRead, TooMuchComes, ExportedCause, ExportedComes, ManyGoalsComes, ReplayedCause, ReplayedComes, LongWitnessComes, BadWitnessComes, MisfitComes, LongCircuitComes, LongSignalsComes, LongFormulaComes, LongProofComes, RefusedCause, BadFormulaComes, BadProofComes, BadStepComes, PrefixAfterFault, SaysLine};
 ghost use Rattle.cover_run.specs.Seen.{seen, Failed, TookWhatItCould};
 ghost use Rattle.command_words.specs.Stops.{is_late};
-ghost use Rattle.command_words.specs.Words.{meaning, texts, Usage};
+ghost use Rattle.command_words.specs.Words.{meaning, texts, Usage, HasScales};
 
 use crate::checking::check;
 use crate::covering::cover;
@@ -41,6 +41,7 @@ fn printed(alloc: Global, text: &str) -> Result<Output, Stop>
 
 /// What a command asks to write. Nothing is written yet.
 fn output_of<D: Desk>(alloc: Global, command: &Command<'_>, desk: &mut D) -> Result<Output, Stop>
+    requires { HasScales (meaning_of command.now) }
     ensures text { HasSameTexts (D.state desk.old) (D.state desk.new) }
     ensures output { IfOk result (λ output. IsOutput (meaning_of command.now) (seen (D.state desk.old) (D.state desk.new)) output.bytes.items output.settled) }
     ensures cause { IfErr result (EarlyCause (meaning_of command.now) (seen (D.state desk.old) (D.state desk.new))) }
@@ -66,6 +67,7 @@ fn execute<D: Desk, O: Sink>(
     desk: &mut D,
     out: &mut O,
 ) -> Result<bool, Stop>
+    requires { HasScales (meaning_of command.now) }
     ensures text { HasSameTexts (D.state desk.old) (D.state desk.new) }
     ensures whole { IfOk result (IsWhole (meaning_of command.now) (seen (D.state desk.old) (D.state desk.new)) (seen (O.state out.old) (O.state out.new))) }
     ensures stopped { IfErr result (IsStopped (meaning_of command.now) (seen (D.state desk.old) (D.state desk.new)) (seen (O.state out.old) (O.state out.new))) }

@@ -1,16 +1,12 @@
 //! What the commands answer to circuits in the binary format.
 
-use crate::rows::ENABLE_REPORT;
 use crate::setting::Setting;
+use crate::sweep_rows::BINARY_COUNTER;
 use cover_run::Status;
 use std::alloc::Global;
 use std::marker::Sync;
 use std::test::Fail;
 use std::thread::Threads;
-
-/// A counter of one bit with enable and reset, with names and a comment.
-const ENABLE: &[u8] =
-    b"aig 7 2 1 2 4\n14\n6\n7\n\x02\x04\x03\x04\x01\x02\x02\x08i0 enable\ni1 reset\nl0 Q\no0 Q\no1 !Q\nc\nmade by hand\n";
 
 /// A gate whose second delta has two bytes.
 const WIDE: &[u8] = b"aig 66 64 1 1 1\n132\n132\n\x02\x80\x01";
@@ -25,9 +21,8 @@ type Row = (
 );
 
 const COVERED: &[Row] = &[
-    (ENABLE, b"l0\n@enable\n", Status::Open, ENABLE_REPORT, b""),
     (
-        ENABLE,
+        BINARY_COUNTER,
         b"@Q\n",
         Status::BadSignals,
         b"",

@@ -18,4 +18,8 @@ mod replay_rows;
 #[cfg(test)]
 mod rows;
 #[cfg(test)]
+mod spent_rows;
+#[cfg(test)]
+mod sweep_rows;
+#[cfg(test)]
 mod words;

@@ -12,28 +12,21 @@ const TOGGLE: &[u8] = b"aag 1 0 1 2 0\n2 3\n2\n3\n";
 const RING: &[u8] = b"aag 2 0 2 0 0\n2 4 1\n4 2\n";
 
 const TOGGLE_REPORT: &[u8] =
-    b"ketch 1\nsize 0 1 1\noptions 0 0 1000 100 4 1 20000 0 0 0\nhistory 2\n0 0 0 r zero 0\n1 0 1 r zero 1\nseeds 0\ninvs 0\ngoals 2\ngoal 0 reached 0\n1\nb0\n0\n\n.\ngoal 1 reached 1\n1\nb1\n0\n\n\n.\nspents 0\nrefutes 0\nend 2 0 0\n";
+    b"ketch 1\nsize 0 1 1\noptions 10 0 1000 100 4 1 20000 0 0 0\nhistory 2\n0 0 0 r zero 0\n1 0 1 r zero 1\nseeds 0\ninvs 0\ngoals 2\ngoal 0 reached 0\n1\nb0\n0\n\n.\ngoal 1 reached 1\n1\nb1\n0\n\n\n.\nspents 0\nrefutes 0\nend 2 0 0\n";
 
 pub(crate) const RING_REPORT: &[u8] =
-    b"ketch 1\nsize 0 2 2\noptions 0 0 1000 100 4 1 20000 0 0 0\nhistory 2\n0 0 1 r zero 0\n1 0 2 r zero 1\nseeds 0\ninvs 0\ngoals 4\ngoal 0 open depth none hops strength none\ngoal 1 reached 0\n1\nb1\n10\n\n.\ngoal 2 reached 1\n1\nb2\n10\n\n\n.\ngoal 3 open depth none hops strength none\nspents 0\nrefutes 0\nend 2 0 2\n";
+    b"ketch 1\nsize 0 2 2\noptions 10 0 1000 100 4 1 20000 0 0 0\nhistory 2\n0 0 1 r zero 0\n1 0 2 r zero 1\nseeds 0\ninvs 0\ngoals 4\ngoal 0 open depth 10 hops strength none\ngoal 1 reached 0\n1\nb1\n10\n\n.\ngoal 2 reached 1\n1\nb2\n10\n\n\n.\ngoal 3 open depth 10 hops strength none\nspents 0\nrefutes 0\nend 2 0 2\n";
 
-/// The free latch starts at 0 in the zero walk, so its other value is left open.
+/// The free latch starts at 0 in the zero walk, and the sweep finds its other value.
 const FREE_REPORT: &[u8] =
-    b"ketch 1\nsize 0 1 1\noptions 0 0 1000 100 4 1 20000 0 0 0\nhistory 1\n0 0 0 r zero 0\nseeds 0\ninvs 0\ngoals 2\ngoal 0 reached 0\n1\nb0\n0\n\n.\ngoal 1 open depth none hops strength none\nspents 0\nrefutes 0\nend 1 0 1\n";
+    b"ketch 1\nsize 0 1 1\noptions 10 0 1000 100 4 1 20000 0 0 0\nhistory 2\n0 0 0 r zero 0\n1 0 1 r sweep 1\nseeds 0\ninvs 0\ngoals 2\ngoal 0 reached 0\n1\nb0\n0\n\n.\ngoal 1 reached 1\n1\nb1\n1\n\n.\nspents 0\nrefutes 0\nend 2 0 0\n";
 
 /// The signal is the negated latch, so the walk begins with goal 1.
 const NEGATED_REPORT: &[u8] =
-    b"ketch 1\nsize 0 1 1\noptions 0 0 1000 100 4 1 20000 0 0 0\nhistory 2\n0 0 1 r zero 0\n1 0 0 r zero 1\nseeds 0\ninvs 0\ngoals 2\ngoal 0 reached 1\n1\nb0\n0\n\n\n.\ngoal 1 reached 0\n1\nb1\n0\n\n.\nspents 0\nrefutes 0\nend 2 0 0\n";
-
-/// Gates out of order, and two inputs that the walk leaves at 0, so the latch stays at 0.
-const ENABLE_AND_RESET: &[u8] =
-    b"aag 7 2 1 2 4\n2\n4\n6 8\n6\n7\n8 4 10\n10 13 15\n12 2 6\n14 3 7\ni0 enable\ni1 reset\n";
-
-pub(crate) const ENABLE_REPORT: &[u8] =
-    b"ketch 1\nsize 2 1 2\noptions 0 0 1000 100 4 1 20000 0 0 0\nhistory 1\n0 0 0 r zero 0\nseeds 0\ninvs 0\ngoals 4\ngoal 0 reached 0\n1\nb0\n0\n00\n.\ngoal 1 open depth none hops strength none\ngoal 2 open depth none hops strength none\ngoal 3 open depth none hops strength none\nspents 0\nrefutes 0\nend 1 0 3\n";
+    b"ketch 1\nsize 0 1 1\noptions 10 0 1000 100 4 1 20000 0 0 0\nhistory 2\n0 0 1 r zero 0\n1 0 0 r zero 1\nseeds 0\ninvs 0\ngoals 2\ngoal 0 reached 1\n1\nb0\n0\n\n\n.\ngoal 1 reached 0\n1\nb1\n0\n\n.\nspents 0\nrefutes 0\nend 2 0 0\n";
 
 const NOTHING_REPORT: &[u8] =
-    b"ketch 1\nsize 0 2 2\noptions 0 0 1000 100 4 1 20000 0 0 0\nhistory 0\nseeds 0\ninvs 0\ngoals 4\ngoal 0 open depth none hops strength none\ngoal 1 open depth none hops strength none\ngoal 2 open depth none hops strength none\ngoal 3 open depth none hops strength none\nspents 0\nrefutes 0\nend 0 0 4\n";
+    b"ketch 1\nsize 0 2 2\noptions 10 0 1000 100 4 1 20000 0 0 0\nhistory 0\nseeds 0\ninvs 0\ngoals 4\ngoal 0 open depth 10 hops strength none\ngoal 1 open depth 10 hops strength none\ngoal 2 open depth 10 hops strength none\ngoal 3 open depth 10 hops strength none\nspents 0\nrefutes 0\nend 0 0 4\n";
 
 /// What the row is about, the circuit, the signals, the status, and the report.
 type ReportRow = (
@@ -61,17 +54,10 @@ const REPORTS: &[ReportRow] = &[
     ),
     ("the ring", RING, b"l0\nl1\n", Status::Open, RING_REPORT),
     (
-        "gates, and a signal by its name",
-        ENABLE_AND_RESET,
-        b"l0\n@enable\n",
-        Status::Open,
-        ENABLE_REPORT,
-    ),
-    (
         "a free reset",
         b"aag 1 0 1 0 0\n2 2 2\n",
         b"l0\n",
-        Status::Open,
+        Status::Settled,
         FREE_REPORT,
     ),
     (
@@ -151,7 +137,7 @@ const REFUSALS: &[ReportRow] = &[
     ),
     (
         "frames that are too large",
-        b"aag 800000 0 0 1 0\n0\n",
+        b"aag 400000 0 0 1 0\n0\n",
         b"o0\n",
         Status::Limit,
         b"ketch: limit: frames\n",

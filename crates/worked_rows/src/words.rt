@@ -41,7 +41,7 @@ const NO_COMMANDS: &[Words] = &[
 
 /// Invalid options.
 const NO_OPTIONS: &[Words] = &[
-    &[b"cover", b"a", b"b", b"--depth", b"1"],
+    &[b"cover", b"a", b"b", b"--depth", b"201"],
     &[b"cover", b"a", b"b", b"--batches", b"1"],
     &[b"cover", b"a", b"b", b"--length", b"0"],
     &[b"cover", b"a", b"b", b"--length", b"100001"],
@@ -100,53 +100,62 @@ fn refused_options(rt: HostRuntime) -> Result<(), Fail> {
 const OPTIONS: &[(&[u8], &[u8], &[u8])] = &[
     (b"--depth", b"0", b"options 0 0 1000 100 4 1 20000 0 0 0\n"),
     (
+        b"--depth",
+        b"200",
+        b"options 200 0 1000 100 4 1 20000 0 0 0\n",
+    ),
+    (
         b"--batches",
         b"0",
-        b"options 0 0 1000 100 4 1 20000 0 0 0\n",
+        b"options 10 0 1000 100 4 1 20000 0 0 0\n",
     ),
-    (b"--length", b"2", b"options 0 0 2 100 4 1 20000 0 0 0\n"),
+    (b"--length", b"2", b"options 10 0 2 100 4 1 20000 0 0 0\n"),
     (
         b"--length",
         b"100000",
-        b"options 0 0 100000 100 4 1 20000 0 0 0\n",
+        b"options 10 0 100000 100 4 1 20000 0 0 0\n",
     ),
-    (b"--stall", b"1", b"options 0 0 1000 1 4 1 20000 0 0 0\n"),
+    (b"--stall", b"1", b"options 10 0 1000 1 4 1 20000 0 0 0\n"),
     (
         b"--stall",
         b"100000",
-        b"options 0 0 1000 100000 4 1 20000 0 0 0\n",
+        b"options 10 0 1000 100000 4 1 20000 0 0 0\n",
     ),
-    (b"--hop", b"0", b"options 0 0 1000 100 0 1 20000 0 0 0\n"),
-    (b"--hop", b"50", b"options 0 0 1000 100 50 1 20000 0 0 0\n"),
-    (b"--seed", b"0", b"options 0 0 1000 100 4 0 20000 0 0 0\n"),
+    (b"--hop", b"0", b"options 10 0 1000 100 0 1 20000 0 0 0\n"),
+    (b"--hop", b"50", b"options 10 0 1000 100 50 1 20000 0 0 0\n"),
+    (b"--seed", b"0", b"options 10 0 1000 100 4 0 20000 0 0 0\n"),
     (
         b"--seed",
         b"18446744073709551615",
-        b"options 0 0 1000 100 4 18446744073709551615 20000 0 0 0\n",
+        b"options 10 0 1000 100 4 18446744073709551615 20000 0 0 0\n",
     ),
-    (b"--lemmas", b"1", b"options 0 0 1000 100 4 1 1 0 0 0\n"),
+    (b"--lemmas", b"1", b"options 10 0 1000 100 4 1 1 0 0 0\n"),
     (
         b"--lemmas",
         b"1000000",
-        b"options 0 0 1000 100 4 1 1000000 0 0 0\n",
+        b"options 10 0 1000 100 4 1 1000000 0 0 0\n",
     ),
     (
         b"--strength",
         b"0",
-        b"options 0 0 1000 100 4 1 20000 0 0 0\n",
+        b"options 10 0 1000 100 4 1 20000 0 0 0\n",
     ),
-    (b"--rounds", b"0", b"options 0 0 1000 100 4 1 20000 0 0 0\n"),
+    (
+        b"--rounds",
+        b"0",
+        b"options 10 0 1000 100 4 1 20000 0 0 0\n",
+    ),
     (
         b"--workers",
         b"1",
-        b"options 0 0 1000 100 4 1 20000 0 0 0\n",
+        b"options 10 0 1000 100 4 1 20000 0 0 0\n",
     ),
     (
         b"--workers",
         b"8",
-        b"options 0 0 1000 100 4 1 20000 0 0 0\n",
+        b"options 10 0 1000 100 4 1 20000 0 0 0\n",
     ),
-    (b"--hop", b"4", b"options 0 0 1000 100 4 1 20000 0 0 0\n"),
+    (b"--hop", b"4", b"options 10 0 1000 100 4 1 20000 0 0 0\n"),
 ];
 
 /// Whether a run over the toggle has this status, and these bytes at the front and at the end of its output.
@@ -209,19 +218,19 @@ const ALL_OPTIONS: Words = &[
     b"--batches",
     b"0",
     b"--depth",
-    b"0",
+    b"9",
 ];
 
 #[test]
 fn all_options(rt: HostRuntime) -> Result<(), Fail> {
-    let head = b"ketch 1\nsize 0 1 1\noptions 0 0 3 4 5 6 7 0 0 0\n";
+    let head = b"ketch 1\nsize 0 1 1\noptions 9 0 3 4 5 6 7 0 0 0\n";
     assert!(rt; shows(&rt, rt.alloc(), ALL_OPTIONS, Status::Settled, head, b"")?);
     Ok(())
 }
 
 const SHORT_WALK: Words = &[b"cover", b"a", b"b", b"--length", b"1"];
 
-/// A walk of one step shows the first state alone.
+/// A walk of one step shows the first state alone, and the sweep finds the other.
 #[test]
 fn short_walk(rt: HostRuntime) -> Result<(), Fail> {
     assert!(rt;
@@ -229,9 +238,9 @@ fn short_walk(rt: HostRuntime) -> Result<(), Fail> {
             &rt,
             rt.alloc(),
             SHORT_WALK,
-            Status::Open,
+            Status::Settled,
             HEAD,
-            b"end 1 0 1\n"
+            b"end 2 0 0\n"
         )?
     );
     Ok(())
