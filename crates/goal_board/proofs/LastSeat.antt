@@ -11,19 +11,16 @@ use lib.ListN.{get_elem?}
 use Rattle.aig_model.specs.SignalList.{SignalList}
 use Rattle.aig_model.specs.declared.parts.Kind.{Kind}
 use Rattle.aig_model.specs.declared.parts.Kind.TheVariants as kinds
-use Rattle.sim_walk.specs.declared.options.Options.{Options}
 use Rattle.board_core.specs.declared.entry.Entry.{Entry}
-use Rattle.board_core.specs.declared.entry.Source.{Source}
-use Rattle.board_core.specs.declared.entry.Source.TheVariants.{Zero, Walk, Sweep, Hop, Again, Proved}
 use Rattle.board_core.specs.declared.view.GoalMark.{GoalMark}
 use Rattle.board_core.specs.declared.view.View.{View as Known}
 use Rattle.board_core.specs.Core.{HasView, mark_of, word_of}
-use Rattle.board_core.specs.History.{IsInRange}
 use Rattle.board_core.specs.Good.{IsEntry, IsMarked}
 use Rattle.board_core.specs.Good as good
 use Rattle.goal_board.specs.declared.view.View.{View}
 use Rattle.goal_board.specs.declared.view.Terms.{Terms}
-use Rattle.goal_board.specs.Found.{Found, IsOfKind}
+use Rattle.goal_facts.specs.Found.{IsOfKind}
+use Rattle.goal_facts.proofs.Truth.{found_is_in_range}
 use Rattle.goal_board.specs.Lists.{total}
 use Rattle.goal_board.specs.Rule.{IsFound, Kept}
 use Rattle.goal_board.specs.History.{IsHistory, HasEntry, IsMark}
@@ -61,15 +58,7 @@ times_only n j views x at only =
     own ∙ sym (total_only (entries_with n) views j (Some x) at (others_none n j views only)) ∙ total_sum (entries_with n) views
 
 -- ---- what is found
-found_in_range : (s : SignalList) (o : Options) (source : Source) (goal : ℕ) → Found s o source goal → IsInRange o source
-found_in_range s o Zero goal f = tt
-found_in_range s o (Walk b) goal f = absurd f
-found_in_range s o Sweep goal f = tt
-found_in_range s o (Hop b) goal f = absurd f
-found_in_range s o (Again r) goal f = f.0
-found_in_range s o Proved goal f = tt
-
-same_kind : (s : SignalList) (goal : ℕ) (a b : Kind) → IsOfKind s a goal → IsOfKind s b goal → a ≡ b
+same_kind : (s : SignalList) (goal : ℕ) (a b : Kind) → IsOfKind s.circuit s.lits a goal → IsOfKind s.circuit s.lits b goal → a ≡ b
 same_kind s goal kinds.Reached kinds.Reached x y = refl
 same_kind s goal kinds.Reached kinds.Unreachable x y = absurd (y x)
 same_kind s goal kinds.Unreachable kinds.Reached x y = absurd (x y)
@@ -92,7 +81,7 @@ is_history t ws vs k =
               caller = omega (arith, p.caller, k.sound.few);
               goal = omega (arith, p.goal, k.goals);
               low = omega (arith, p.low, p.number);
-              source = found_in_range t.signals.value t.options e.source e.goal f.0;
+              source = found_is_in_range t.signals.value.circuit t.signals.value.lits t.options e.source e.goal f.0;
               kind = f.1;
             };
         once = λ i j d lt inside. dite (ℕ_discrete ((get_or h i d).caller) ((get_or h j d).caller))
@@ -101,7 +90,7 @@ is_history t ws vs k =
         kinds = λ i j d lt inside same.
             let a = found_at t h i (get_or h i d) k.found (at i d (omega arith)) in
             let b = found_at t h j (get_or h j d) k.found (at j d inside) in
-            same_kind t.signals.value ((get_or h j d).goal) ((get_or h i d).kind) ((get_or h j d).kind) (subst (λ (g : ℕ). IsOfKind t.signals.value ((get_or h i d).kind) g) same a) b;
+            same_kind t.signals.value ((get_or h j d).goal) ((get_or h i d).kind) ((get_or h j d).kind) (subst (λ (g : ℕ). IsOfKind t.signals.value.circuit t.signals.value.lits ((get_or h i d).kind) g) same a) b;
       };
       ordered = λ i j d lt inside same.
           let number = (k.sound.posted i (get_or h i d) (at i d (omega arith))).number in

@@ -3,7 +3,6 @@ use Rattle.std.proofs.Common.{◌≡◌, ℕ, zero, suc, ◌+◌, ◌-◌, ◌*�
 use Rattle.std.specs.List.{range_with_len}
 use Rattle.std.proofs.lemmas.List.FromFn.{get_or-map-range_with_len, length-map-range_with_len}
 use Rattle.atomic_table.specs.Seated.{TableId}
-use Rattle.aig_model.specs.SignalList.{SignalList}
 use Rattle.board_core.specs.Core.{fresh_view}
 use Rattle.goal_board.specs.declared.view.Terms.{Terms}
 use Rattle.goal_board.specs.Lists.{trues}
@@ -26,9 +25,9 @@ pub one_fits : (parts share : ℕ) → 0 < parts → share ≤ parts * share
 one_fits zero share some = absurd (omega arith)
 one_fits (suc p) share some = let one : suc p * share ≡ p * share + share = suc-mul p share in omega arith
 
-pub pass_is : (board : BoardState) (table : TableId) (terms : Option Terms) (signals : SignalList) (goals caller : ℕ) → table ≡ board.table → terms ≡ Some board.terms → signals ≡ board.terms.signals.value → goals ≡ board.terms.goals
-    → (let p : PassState = record { table = table; terms = terms; signals = signals; goals = goals; caller = caller; known = fresh_view; evidence = [] } in p ≡ new_pass board caller)
-pass_is board table terms signals goals caller a b c d = λ i. record { table = a i; terms = b i; signals = c i; goals = d i; caller = caller; known = fresh_view; evidence = [] }
+pub pass_is : (board : BoardState) (table : TableId) (terms : Option Terms) (goals caller : ℕ) → table ≡ board.table → terms ≡ Some board.terms → goals ≡ board.terms.goals
+    → (let p : PassState = record { table = table; terms = terms; goals = goals; caller = caller; known = fresh_view; evidence = [] } in p ≡ new_pass board caller)
+pass_is board table terms goals caller a b d = λ i. record { table = a i; terms = b i; goals = d i; caller = caller; known = fresh_view; evidence = [] }
 
 pub range_snoc : {X : Type 0} (f : ℕ → X) (a n m : ℕ) → m ≡ a + n → map f (range_with_len a n) ++ f m ∷ [] ≡ map f (range_with_len a (n + 1))
 range_snoc f a zero m e = ap (λ k. f k ∷ []) (let h : m ≡ a = omega arith in h)
@@ -44,7 +43,7 @@ all_of board s e room goals =
     let at : (k : ℕ) (d : PassState) → k < length s.passes → get_or s.passes k d ≡ new_pass board k
     = λ k d lt. ap (λ l. get_or l k d) e ∙ get_or-map-range_with_len (new_pass board) 0 n k k d (omega (arith, lt, long)) (let same : 0 + k ≡ k = omega arith in same) in
     record {
-      of_board = λ k d lt. subst (IsPassOf board) (sym (at k d lt)) record { table = refl; terms = refl; signals = refl; goals = refl };
+      of_board = λ k d lt. subst (IsPassOf board) (sym (at k d lt)) record { table = refl; terms = refl; goals = refl };
       count = long;
       distinct = λ i j d lt far same.
           let a = ap (λ (p : PassState). p.caller) (at i d (omega (arith, lt, far))) in

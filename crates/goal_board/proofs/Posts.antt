@@ -7,13 +7,12 @@ use Rattle.std.proofs.lemmas.List.{get_or-set_other, get_or-set_same, length_pus
 use Rattle.std.proofs.lemmas.List.Elements.{All-push, All-contains, Contains-push}
 use mathlib.Core.Logic.{dite}
 use native.Mathlib.Decide.{ℕ_discrete}
-use Rattle.aig_model.specs.SignalList.{SignalList}
 use Rattle.board_core.specs.declared.entry.Entry.{Entry}
 use Rattle.board_core.specs.declared.entry.Source.{Source}
 use Rattle.board_core.specs.declared.view.GoalMark.{GoalMark}
 use Rattle.goal_board.specs.declared.view.Terms.{Terms}
 use Rattle.goal_board.specs.declared.pass.Posted.{Posted}
-use Rattle.goal_board.specs.Found.{Found}
+use Rattle.goal_facts.specs.Found.{Found}
 use Rattle.goal_board.specs.Lists.{trues}
 use Rattle.goal_board.specs.Rule.{Sat, MayNumber, numbered, marked, looked, entry_of}
 use Rattle.goal_board.specs.Passes.{front_after}
@@ -63,9 +62,9 @@ all_front : {A : Type 0} (P : A → Type 0) (ys : List A) (x : A) → All P (ys 
 all_front P ys x all k d lt = subst P (get_front ys x d k lt) (all k d (omega (arith, lt, length_push ys x)))
 
 -- ---- a look
-pub pass_looked : (posts : Vec Posted Global) (posted : List Bool) (by front : ℕ) (signals : SignalList) (me : Sat) (goal : ℕ) (mark : Option GoalMark) → IsPass posts posted by front signals me
-    → IsPass posts posted by (front_after front mark) signals (looked me.0 goal mark, me.1)
-pass_looked posts posted by front signals me goal None i = record {
+pub pass_looked : (posts : Vec Posted Global) (posted : List Bool) (by front : ℕ) (me : Sat) (goal : ℕ) (mark : Option GoalMark) → IsPass posts posted by front me
+    → IsPass posts posted by (front_after front mark) (looked me.0 goal mark, me.1)
+pass_looked posts posted by front me goal None i = record {
   parts = i.parts;
   slots = i.slots;
   caller = i.caller;
@@ -80,7 +79,7 @@ pass_looked posts posted by front signals me goal None i = record {
   room = i.room;
   evidenced = i.evidenced;
 }
-pass_looked posts posted by front signals me goal (Some m) i = record {
+pass_looked posts posted by front me goal (Some m) i = record {
   parts = i.parts;
   slots = i.slots;
   caller = i.caller;
@@ -98,37 +97,37 @@ pass_looked posts posted by front signals me goal (Some m) i = record {
 
 -- ---- a post
 -- no flag is up for a goal for which the caller hasn't posted
-pub flag_down : (posts : Vec Posted Global) (posted : List Bool) (by front : ℕ) (signals : SignalList) (me : Sat) (goal : ℕ) → IsPass posts posted by front signals me
+pub flag_down : (posts : Vec Posted Global) (posted : List Bool) (by front : ℕ) (me : Sat) (goal : ℕ) → IsPass posts posted by front me
     → All (λ (e : Entry). e.goal ≢ goal) me.0.known.entries → get_or posted goal false ≡ false
-flag_down posts posted by front signals me goal i new = down (get_or posted goal false) (λ up. i.real goal up new)
+flag_down posts posted by front me goal i new = down (get_or posted goal false) (λ up. i.real goal up new)
 
 -- so there is room for the post
-pub has_room : (posts : Vec Posted Global) (posted : List Bool) (by front : ℕ) (signals : SignalList) (me : Sat) (goal : ℕ) → IsPass posts posted by front signals me → goal < length posted
+pub has_room : (posts : Vec Posted Global) (posted : List Bool) (by front : ℕ) (me : Sat) (goal : ℕ) → IsPass posts posted by front me → goal < length posted
     → All (λ (e : Entry). e.goal ≢ goal) me.0.known.entries → (length posts.items < vec_capacity posts) × (0 < me.0.left)
-has_room posts posted by front signals me goal i range new =
-    let few = trues_below posted goal range (flag_down posts posted by front signals me goal i new) in
+has_room posts posted by front me goal i range new =
+    let few = trues_below posted goal range (flag_down posts posted by front me goal i new) in
     (omega (arith, few, i.counted, i.room), omega (arith, few, i.counted, i.left))
 
-pub may_number : (t : Terms) (posts : Vec Posted Global) (posted : List Bool) (by front : ℕ) (signals : SignalList) (me : Sat) (goal : ℕ) (source : Source) → IsPass posts posted by front signals me
-    → length posted ≡ t.goals → goal < length posted → All (λ (e : Entry). e.goal ≢ goal) me.0.known.entries → Found t.signals.value t.options source goal → MayNumber t me.0 goal source
-may_number t posts posted by front signals me goal source i goals range new found = record {
+pub may_number : (t : Terms) (posts : Vec Posted Global) (posted : List Bool) (by front : ℕ) (me : Sat) (goal : ℕ) (source : Source) → IsPass posts posted by front me
+    → length posted ≡ t.goals → goal < length posted → All (λ (e : Entry). e.goal ≢ goal) me.0.known.entries → Found t.signals.value.circuit t.signals.value.lits t.options source goal → MayNumber t me.0 goal source
+may_number t posts posted by front me goal source i goals range new found = record {
   live = omega (arith, i.parts);
-  left = (has_room posts posted by front signals me goal i range new).1;
+  left = (has_room posts posted by front me goal i range new).1;
   idle = i.idle;
   range = omega (arith, goals, range);
   first = λ k d lt. inr (new k d lt);
   found = found;
 }
 
-pub pass_posted : (posts more : Vec Posted Global) (posted : List Bool) (by front : ℕ) (signals : SignalList) (me : Sat) (goal : ℕ) (source : Source) (number : ℕ) (p : Posted)
-    → IsPass posts posted by front signals me → goal < length posted → All (λ (e : Entry). e.goal ≢ goal) me.0.known.entries
-    → more.items ≡ posts.items ++ p ∷ [] → vec_capacity posts ≤ vec_capacity more → p.entry ≡ entry_of me.0 number goal source → IsEvidenced signals p
-    → IsPass more (set posted goal true) by (number + 1) signals (marked (numbered me.0 (entry_of me.0 number goal source)) goal, me.1)
-pass_posted posts more posted by front signals me goal source number p i range new items capacity is ev =
+pub pass_posted : (posts more : Vec Posted Global) (posted : List Bool) (by front : ℕ) (me : Sat) (goal : ℕ) (source : Source) (number : ℕ) (p : Posted)
+    → IsPass posts posted by front me → goal < length posted → All (λ (e : Entry). e.goal ≢ goal) me.0.known.entries
+    → more.items ≡ posts.items ++ p ∷ [] → vec_capacity posts ≤ vec_capacity more → p.entry ≡ entry_of me.0 number goal source → ((t : Terms) → me.0.terms ≡ Some t → IsEvidenced t p)
+    → IsPass more (set posted goal true) by (number + 1) (marked (numbered me.0 (entry_of me.0 number goal source)) goal, me.1)
+pass_posted posts more posted by front me goal source number p i range new items capacity is ev =
     let e : Entry = entry_of me.0 number goal source in
     let entries = me.0.known.entries in
-    let lowered = flag_down posts posted by front signals me goal i new in
-    let room = has_room posts posted by front signals me goal i range new in
+    let lowered = flag_down posts posted by front me goal i new in
+    let room = has_room posts posted by front me goal i range new in
     let long = ap length items ∙ length_push posts.items p in
     record {
       parts = i.parts;
@@ -147,5 +146,5 @@ pass_posted posts more posted by front signals me goal source number p i range n
       counted = omega (arith, trues_set posted goal range lowered, i.counted, long);
       left = omega (arith, i.left, room.1, long, length-set posted goal true);
       room = omega (arith, i.room, capacity, length-set posted goal true);
-      evidenced = subst (All (IsEvidenced signals)) (sym items) (All-push (IsEvidenced signals) posts.items p i.evidenced ev);
+      evidenced = λ t told. subst (All (IsEvidenced t)) (sym items) (All-push (IsEvidenced t) posts.items p (i.evidenced t told) (ev t told));
     }

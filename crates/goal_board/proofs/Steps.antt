@@ -27,10 +27,10 @@ use Rattle.board_core.proofs.KeptMark.{mark-sound}
 use Rattle.board_core.proofs.KeptLook.{look-sound}
 use Rattle.goal_board.specs.declared.view.View.{View}
 use Rattle.goal_board.specs.declared.view.Terms.{Terms}
-use Rattle.goal_board.specs.Found.{IsOfKind}
+use Rattle.goal_facts.specs.Found.{IsOfKind}
 use Rattle.goal_board.specs.Rule.{IsFound, Fits, Apart, HasSeat, Kept, MayNumber, numbered, marked, looked, entry_of, Numbers, Marks, Looks, Tells, Sat}
 use Rattle.goal_board.proofs.Sums.{at_below, total-set}
-use Rattle.goal_board.proofs.Truth.{found_is_true}
+use Rattle.goal_facts.proofs.Truth.{found_is_true}
 
 abbrev pub Holds : Terms → State (Unit {0}) View → Type 0
 Holds t s = Kept t s.words s.views
@@ -194,10 +194,10 @@ kept_look t ws vs id v g k me live lt =
     kept_event t ws ws vs id v (looked v g (mark_of k.core g)) k me live k.core.history k.core.marks (event_kinds.Look v.caller g) step (look-sound k.core v.caller g can k.sound) k.found k.wide k.goals k.count k.marks refl refl refl refl (omega arith)
 
 -- what is found is so of its goal
-pub found_at : (t : Terms) (hs : List Entry) (n : ℕ) (e : Entry) → All (IsFound t) hs → IsEntry hs n e → IsOfKind t.signals.value e.kind e.goal
+pub found_at : (t : Terms) (hs : List Entry) (n : ℕ) (e : Entry) → All (IsFound t) hs → IsEntry hs n e → IsOfKind t.signals.value.circuit t.signals.value.lits e.kind e.goal
 found_at t hs n e all at =
     let f : IsFound t e = subst (IsFound t) (get_or_from_slice_get hs n e e at) (all n e (slice_get_within hs n e at)) in
-    subst (λ (kind : Rattle.aig_model.specs.declared.parts.Kind.Kind). IsOfKind t.signals.value kind e.goal) (sym f.1) (found_is_true t.signals.value t.options e.source e.goal f.0)
+    subst (λ (kind : Rattle.aig_model.specs.declared.parts.Kind.Kind). IsOfKind t.signals.value.circuit t.signals.value.lits kind e.goal) (sym f.1) (found_is_true t.signals.value.circuit t.signals.value.lits t.options e.source e.goal f.0)
 
 tells : (t : Terms) (ws : List ℕ) (vs : List View) (id : ℕ) (v : View) (g : ℕ) (o : Option GoalMark) → (k : Kept t ws vs) → get_elem? vs id ≡ some v → 0 < v.parts → g < t.goals → mark_of k.core g ≡ o → Tells v g o
 tells t ws vs id v g None k me live lt is = λ has.
@@ -208,9 +208,9 @@ tells t ws vs id v g (Some m) k me live lt is = λ u same.
     let at : slice_get k.core.marks g ≡ Some (Some m) = slice_get-get_or k.core.marks g None (omega (arith, lt, k.goals)) ∙ ap (λ (o : Option GoalMark). Some o) is in
     let named = k.sound.named g m at in
     let truth = found_at t k.core.history m.number named.entry k.found named.place in
-    let here = subst (λ (y : ℕ). IsOfKind t.signals.value m.kind y) named.goal (subst (λ (kind : Rattle.aig_model.specs.declared.parts.Kind.Kind). IsOfKind t.signals.value kind named.entry.goal) named.kind truth) in
+    let here = subst (λ (y : ℕ). IsOfKind t.signals.value.circuit t.signals.value.lits m.kind y) named.goal (subst (λ (kind : Rattle.aig_model.specs.declared.parts.Kind.Kind). IsOfKind t.signals.value.circuit t.signals.value.lits kind named.entry.goal) named.kind truth) in
     let one : t ≡ u = same_Some t u (sym ((k.each id v me).terms live) ∙ same) in
-    subst (λ (y : Terms). IsOfKind y.signals.value m.kind g) one here
+    subst (λ (y : Terms). IsOfKind y.signals.value.circuit y.signals.value.lits m.kind g) one here
 
 pub looks_allowed : (t : Terms) (slots id : ℕ) (m : Sat) (g : ℕ) → 0 < m.0.parts → g < t.goals → Allows (Holds t) slots id m (g + 1) (λ n. n) (Looks (step slots (g + 1) 0 0 none) m)
 looks_allowed t slots id m g live lt s k long me small =

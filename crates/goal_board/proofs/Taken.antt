@@ -9,7 +9,6 @@ use Rattle.std.proofs.Math.Seq.{get_or-append_seam}
 use Rattle.std.proofs.lemmas.List.Elements.{All-cons, All-append, All-nil, All-map, All-contains, Contains-get_or, Contains-append_left, Contains-append_right, Contains-append_cases}
 use Rattle.std.proofs.lemmas.Option.{same_Some, slice_get-map, slice_get-get_or, none-some}
 use Rattle.atomic_table.specs.Seated.{TableId}
-use Rattle.aig_model.specs.SignalList.{SignalList}
 use Rattle.board_core.specs.declared.entry.Entry.{Entry}
 use Rattle.board_core.specs.declared.view.View.{View as Known}
 use Rattle.board_core.specs.Core.{with_all}
@@ -27,17 +26,17 @@ use Rattle.goal_board.proofs.Posts.{trues_le}
 use Rattle.goal_board.proofs.Numbers.{entry_among, length_numbered}
 
 -- ---- one pass
-pub record OnePass (signals : SignalList) (goals : ℕ) (x : PassState) (posts : List Posted) (caller : ℕ) (known : Known) : Type 0 where
+pub record OnePass (t : Terms) (goals : ℕ) (x : PassState) (posts : List Posted) (caller : ℕ) (known : Known) : Type 0 where
   pub caller_is : x.caller ≡ caller
   pub known_is : x.known ≡ known
   pub entries : x.known.entries ≡ entries_of posts
   pub evidence_is : x.evidence ≡ map (λ (p : Posted). p.evidence) posts
   pub few : length posts ≤ goals
-  pub evidenced : All (IsEvidenced signals) posts
+  pub evidenced : All (IsEvidenced t) posts
 
-pub one_pass : (board : BoardState) (x : PassState) (posts : Vec Posted Global) (posted : List Bool) (by front : ℕ) (signals : SignalList) (table : TableId) (me : Sat)
-    → pass_state signals posted posts.items table me.0 ≡ x → IsPassOf board x → IsPass posts posted by front signals me → OnePass board.terms.signals.value board.terms.goals x posts.items me.0.caller me.0.known
-one_pass board x posts posted by front signals table me is of i =
+pub one_pass : (board : BoardState) (x : PassState) (posts : Vec Posted Global) (posted : List Bool) (by front : ℕ) (table : TableId) (me : Sat)
+    → pass_state posted posts.items table me.0 ≡ x → IsPassOf board x → IsPass posts posted by front me → OnePass board.terms board.terms.goals x posts.items me.0.caller me.0.known
+one_pass board x posts posted by front table me is of i =
     let known : x.known ≡ me.0.known = sym (ap (λ (s : PassState). s.known) is) in
     record {
       caller_is = sym (ap (λ (s : PassState). s.caller) is);
@@ -45,7 +44,7 @@ one_pass board x posts posted by front signals table me is of i =
       entries = ap (λ (k : Known). k.entries) known ∙ i.entries;
       evidence_is = sym (ap (λ (s : PassState). s.evidence) is);
       few = omega (arith, trues_le posted, i.counted, ap (λ (s : PassState). s.goals) is, of.goals);
-      evidenced = subst (λ (s : SignalList). All (IsEvidenced s) posts.items) (ap (λ (s : PassState). s.signals) is ∙ of.signals) i.evidenced;
+      evidenced = i.evidenced board.terms (ap (λ (s : PassState). s.terms) is ∙ of.terms);
     }
 
 pair_at : (ps : List Posted) (k : ℕ) (e : Entry) (v : Evidence) → slice_get (entries_of ps) k ≡ Some e → slice_get (map (λ (p : Posted). p.evidence) ps) k ≡ Some v
@@ -54,11 +53,11 @@ pair_at [] k e v a b = absurd (none-some e a)
 pair_at (p ∷ ps) zero e v a b = (0, omega arith, λ i. record { entry = same_Some p.entry e a i; evidence = same_Some p.evidence v b i })
 pair_at (p ∷ ps) (suc k) e v a b = let r = pair_at ps k e v a b in (suc r.0, omega (arith, r.1), r.2)
 
-own_among : (signals : SignalList) (goals : ℕ) (x : PassState) (ps : List Posted) (caller : ℕ) (known : Known) → OnePass signals goals x ps caller known → IsAmong ps x
-own_among signals goals x ps caller known o k e v a b = pair_at ps k e v (sym (ap (λ l. slice_get l k) o.entries) ∙ a) (sym (ap (λ l. slice_get l k) o.evidence_is) ∙ b)
+own_among : (t : Terms) (goals : ℕ) (x : PassState) (ps : List Posted) (caller : ℕ) (known : Known) → OnePass t goals x ps caller known → IsAmong ps x
+own_among t goals x ps caller known o k e v a b = pair_at ps k e v (sym (ap (λ l. slice_get l k) o.entries) ∙ a) (sym (ap (λ l. slice_get l k) o.evidence_is) ∙ b)
 
-post_of : (signals : SignalList) (goals : ℕ) (x : PassState) (ps : List Posted) (caller : ℕ) (known : Known) (p : Posted) → OnePass signals goals x ps caller known → Contains ps p → Contains x.known.entries p.entry
-post_of signals goals x ps caller known p o has = subst (λ l. Contains l p.entry) (sym o.entries) (entry_among ps p has)
+post_of : (t : Terms) (goals : ℕ) (x : PassState) (ps : List Posted) (caller : ℕ) (known : Known) (p : Posted) → OnePass t goals x ps caller known → Contains ps p → Contains x.known.entries p.entry
+post_of t goals x ps caller known p o has = subst (λ l. Contains l p.entry) (sym o.entries) (entry_among ps p has)
 
 -- ---- what two know, as one
 pub record HasBoth (a b w : Known) : Type 0 where
@@ -97,15 +96,15 @@ contains_later x xs a h = (suc h.0, omega (arith, h.1), h.2)
 posted_later : (x : PassState) (taken : List PassState) (e : Entry) → IsPostedBy taken e → IsPostedBy (x ∷ taken) e
 posted_later x taken e b = record { pass = b.pass; one = contains_later x taken b.pass b.one; its = b.its }
 
-own_posted : (signals : SignalList) (goals : ℕ) (x : PassState) (taken : List PassState) (ps : List Posted) (caller : ℕ) (known : Known) → OnePass signals goals x ps caller known → All (λ (p : Posted). IsPostedBy (x ∷ taken) p.entry) ps
-own_posted signals goals x taken ps caller known o = λ k d lt. record { pass = x; one = (0, omega arith, refl); its = post_of signals goals x ps caller known (get_or ps k d) o (Contains-get_or ps k d lt) }
+own_posted : (t : Terms) (goals : ℕ) (x : PassState) (taken : List PassState) (ps : List Posted) (caller : ℕ) (known : Known) → OnePass t goals x ps caller known → All (λ (p : Posted). IsPostedBy (x ∷ taken) p.entry) ps
+own_posted t goals x taken ps caller known o = λ k d lt. record { pass = x; one = (0, omega arith, refl); its = post_of t goals x ps caller known (get_or ps k d) o (Contains-get_or ps k d lt) }
 
-pub gathered_one : (signals : SignalList) (goals : ℕ) (x : PassState) (ps : List Posted) (caller : ℕ) (known : Known) → OnePass signals goals x ps caller known → AreGathered signals goals (x ∷ []) known ps
-gathered_one signals goals x ps caller known o =
+pub gathered_one : (t : Terms) (goals : ℕ) (x : PassState) (ps : List Posted) (caller : ℕ) (known : Known) → OnePass t goals x ps caller known → AreGathered t goals (x ∷ []) known ps
+gathered_one t goals x ps caller known o =
     let entries : known.entries ≡ entries_of ps = ap (λ (k : Known). k.entries) (sym o.known_is) ∙ o.entries in
     record {
-      among = All-cons (IsAmong ps) x [] (own_among signals goals x ps caller known o) (All-nil (IsAmong ps));
-      posted = own_posted signals goals x [] ps caller known o;
+      among = All-cons (IsAmong ps) x [] (own_among t goals x ps caller known o) (All-nil (IsAmong ps));
+      posted = own_posted t goals x [] ps caller known o;
       evidenced = o.evidenced;
       few = let one : length (x ∷ []) * goals ≡ 0 * goals + goals = suc-mul 0 goals in omega (arith, o.few, one);
       handed = λ e h. subst (λ l. Contains l e) (sym entries) h;
@@ -115,19 +114,19 @@ gathered_one signals goals x ps caller known o =
           (All-nil (λ (p : PassState). All (Contains known.settled) p.known.settled));
     }
 
-pub gathered_more : (signals : SignalList) (goals : ℕ) (taken : List PassState) (old : Known) (all : List Posted) (x : PassState) (ps : List Posted) (caller : ℕ) (known w : Known)
-    → AreGathered signals goals taken old all → OnePass signals goals x ps caller known → HasBoth old known w → AreGathered signals goals (x ∷ taken) w (all ++ ps)
-gathered_more signals goals taken old all x ps caller known w g o both =
+pub gathered_more : (t : Terms) (goals : ℕ) (taken : List PassState) (old : Known) (all : List Posted) (x : PassState) (ps : List Posted) (caller : ℕ) (known w : Known)
+    → AreGathered t goals taken old all → OnePass t goals x ps caller known → HasBoth old known w → AreGathered t goals (x ∷ taken) w (all ++ ps)
+gathered_more t goals taken old all x ps caller known w g o both =
     let entries : known.entries ≡ entries_of ps = ap (λ (k : Known). k.entries) (sym o.known_is) ∙ o.entries in
     let split : entries_of (all ++ ps) ≡ entries_of all ++ entries_of ps = entries-append all ps in
     record {
       among = All-cons (IsAmong (all ++ ps)) x taken
-          (λ k e v a b. Contains-append_right all ps (record { entry = e; evidence = v }) (own_among signals goals x ps caller known o k e v a b))
+          (λ k e v a b. Contains-append_right all ps (record { entry = e; evidence = v }) (own_among t goals x ps caller known o k e v a b))
           (λ i d lt k e v a b. Contains-append_left all ps (record { entry = e; evidence = v }) (g.among i d lt k e v a b));
       posted = All-append (λ (p : Posted). IsPostedBy (x ∷ taken) p.entry) all ps
           (λ k d lt. posted_later x taken ((get_or all k d).entry) (g.posted k d lt))
-          (own_posted signals goals x taken ps caller known o);
-      evidenced = All-append (IsEvidenced signals) all ps g.evidenced o.evidenced;
+          (own_posted t goals x taken ps caller known o);
+      evidenced = All-append (IsEvidenced t) all ps g.evidenced o.evidenced;
       few = let more : length (x ∷ taken) * goals ≡ length taken * goals + goals = suc-mul (length taken) goals in omega (arith, g.few, o.few, length-append all ps, more);
       handed = λ e h. ⊎_elim
           (λ (a : Contains (entries_of all) e). both.left e (g.handed e a))
@@ -162,12 +161,12 @@ other_caller before taken x y distinct has =
     λ same. distinct (length before) far y (omega arith) (omega (arith, has.1, length-append before (x ∷ taken)))
     (ap (λ (p : PassState). p.caller) here ∙ same ∙ ap (λ (p : PassState). p.caller) (sym there))
 
-pub taken_first : (signals : SignalList) (goals : ℕ) (all left : List PassState) (x : PassState) (ps : List Posted) (caller : ℕ) (known : Known)
-    → all ≡ left ++ x ∷ [] → OnePass signals goals x ps caller known → AreTaken signals goals all left caller known ps
-taken_first signals goals all left x ps caller known split o = record {
+pub taken_first : (t : Terms) (goals : ℕ) (all left : List PassState) (x : PassState) (ps : List Posted) (caller : ℕ) (known : Known)
+    → all ≡ left ++ x ∷ [] → OnePass t goals x ps caller known → AreTaken t goals all left caller known ps
+taken_first t goals all left x ps caller known split o = record {
   taken = x ∷ [];
   split = split;
-  gathered = gathered_one signals goals x ps caller known o;
+  gathered = gathered_one t goals x ps caller known o;
   its = x;
   its_in = (0, omega arith, refl);
   its_caller = o.caller_is;
@@ -178,36 +177,36 @@ its_after : (x : PassState) (taken : List PassState) (its : PassState) (now old 
 its_after x taken its now old other (inl e) has is own = (its, contains_later x taken its has, is ∙ sym e)
 its_after x taken its now old other (inr e) has is own = (x, (0, omega arith, refl), own ∙ sym e)
 
-pub taken_more : (signals : SignalList) (goals : ℕ) (all before left : List PassState) (old : ℕ) (known : Known) (posts : List Posted) (x : PassState) (ps : List Posted) (other : ℕ) (more : Known) (now : ℕ) (w : Known)
-    → AreTaken signals goals all before old known posts → before ≡ left ++ x ∷ [] → OnePass signals goals x ps other more → HasBoth known more w → (now ≡ old) ⊎ (now ≡ other) → AreTaken signals goals all left now w (posts ++ ps)
-taken_more signals goals all before left old known posts x ps other more now w a popped o both caller =
+pub taken_more : (t : Terms) (goals : ℕ) (all before left : List PassState) (old : ℕ) (known : Known) (posts : List Posted) (x : PassState) (ps : List Posted) (other : ℕ) (more : Known) (now : ℕ) (w : Known)
+    → AreTaken t goals all before old known posts → before ≡ left ++ x ∷ [] → OnePass t goals x ps other more → HasBoth known more w → (now ≡ old) ⊎ (now ≡ other) → AreTaken t goals all left now w (posts ++ ps)
+taken_more t goals all before left old known posts x ps other more now w a popped o both caller =
     let y = its_after x a.taken a.its now old other caller a.its_in a.its_caller o.caller_is in
     record {
       taken = x ∷ a.taken;
       split = a.split ∙ ap (λ (l : List PassState). l ++ a.taken) popped ∙ append_assoc left (x ∷ []) a.taken;
-      gathered = gathered_more signals goals a.taken known posts x ps other more w a.gathered o both;
+      gathered = gathered_more t goals a.taken known posts x ps other more w a.gathered o both;
       its = y.0;
       its_in = y.1;
       its_caller = y.2;
     }
 
 -- so its caller is another than the next pass's
-pub next_differs : (signals : SignalList) (goals : ℕ) (all before left : List PassState) (old : ℕ) (known : Known) (posts : List Posted) (x : PassState) (other : ℕ)
-    → AreTaken signals goals all before old known posts → before ≡ left ++ x ∷ [] → AllPairs (λ (a b : PassState). a.caller ≢ b.caller) all → x.caller ≡ other → old ≢ other
-next_differs signals goals all before left old known posts x other a popped distinct own =
+pub next_differs : (t : Terms) (goals : ℕ) (all before left : List PassState) (old : ℕ) (known : Known) (posts : List Posted) (x : PassState) (other : ℕ)
+    → AreTaken t goals all before old known posts → before ≡ left ++ x ∷ [] → AllPairs (λ (a b : PassState). a.caller ≢ b.caller) all → x.caller ≡ other → old ≢ other
+next_differs t goals all before left old known posts x other a popped distinct own =
     let split : all ≡ left ++ x ∷ a.taken = a.split ∙ ap (λ (l : List PassState). l ++ a.taken) popped ∙ append_assoc left (x ∷ []) a.taken in
     let apart = other_caller left a.taken x a.its (subst (AllPairs (λ (a b : PassState). a.caller ≢ b.caller)) split distinct) a.its_in in
     λ same. apart (own ∙ sym same ∙ sym a.its_caller)
 
-pub next_is_of : (board : BoardState) (signals : SignalList) (goals : ℕ) (all before left : List PassState) (old : ℕ) (known : Known) (posts : List Posted) (x : PassState)
-    → AreTaken signals goals all before old known posts → before ≡ left ++ x ∷ [] → All (IsPassOf board) all → IsPassOf board x
-next_is_of board signals goals all before left old known posts x a popped of =
+pub next_is_of : (board : BoardState) (t : Terms) (goals : ℕ) (all before left : List PassState) (old : ℕ) (known : Known) (posts : List Posted) (x : PassState)
+    → AreTaken t goals all before old known posts → before ≡ left ++ x ∷ [] → All (IsPassOf board) all → IsPassOf board x
+next_is_of board t goals all before left old known posts x a popped of =
     all_middle (IsPassOf board) all left a.taken x (a.split ∙ ap (λ (l : List PassState). l ++ a.taken) popped ∙ append_assoc left (x ∷ []) a.taken) of
 
-pub all_taken : (signals : SignalList) (goals : ℕ) (all left : List PassState) (caller : ℕ) (known : Known) (posts : List Posted)
-    → AreTaken signals goals all left caller known posts → length left ≡ 0 → AreGathered signals goals all known posts
-all_taken signals goals all [] caller known posts a none = subst (λ (l : List PassState). AreGathered signals goals l known posts) (sym a.split) a.gathered
-all_taken signals goals all (x ∷ left) caller known posts a none = absurd (omega (arith, none))
+pub all_taken : (t : Terms) (goals : ℕ) (all left : List PassState) (caller : ℕ) (known : Known) (posts : List Posted)
+    → AreTaken t goals all left caller known posts → length left ≡ 0 → AreGathered t goals all known posts
+all_taken t goals all [] caller known posts a none = subst (λ (l : List PassState). AreGathered t goals l known posts) (sym a.split) a.gathered
+all_taken t goals all (x ∷ left) caller known posts a none = absurd (omega (arith, none))
 
 -- ---- two seats as one
 pub record AreOne (a b : View) (m : Sat) : Type 0 where
@@ -234,8 +233,8 @@ as_one a b m ia ib (inr e) = record {
 }
 
 -- ---- the history
-module _ (t : Terms) (signals : SignalList) (goals : ℕ) (passes : List PassState) (known : Known) (posts : List Posted) (marks : List (Option ℕ))
-    (g : AreGathered signals goals passes known posts) (e : IsEnd t known marks) where
+module _ (t : Terms) (goals : ℕ) (passes : List PassState) (known : Known) (posts : List Posted) (marks : List (Option ℕ))
+    (g : AreGathered t goals passes known posts) (e : IsEnd t known marks) where
   numbered_as_history : AreNumbered (entries_of posts) (length e.history)
   numbered_as_history n = sym (g.times_are n) ∙ e.numbered n
 
@@ -259,12 +258,12 @@ mapped_at f [] k b e = absurd (none-some b e)
 mapped_at f (x ∷ xs) zero b e = (x, refl, same_Some (f x) b e)
 mapped_at f (x ∷ xs) (suc k) b e = mapped_at f xs k b e
 
-module _ (t : Terms) (signals : SignalList) (goals : ℕ) (passes : List PassState) (known : Known) (posts : List Posted) (marks : List (Option ℕ))
-    (g : AreGathered signals goals passes known posts) (e : IsEnd t known marks) (sorted : List Posted) (o : IsInOrder posts sorted) where
+module _ (t : Terms) (goals : ℕ) (passes : List PassState) (known : Known) (posts : List Posted) (marks : List (Option ℕ))
+    (g : AreGathered t goals passes known posts) (e : IsEnd t known marks) (sorted : List Posted) (o : IsInOrder posts sorted) where
   -- the sorted posts' entries are the history
   pub history_is : entries_of sorted ≡ e.history
   history_is =
-      same_lists (entries_of sorted) e.history (length-map sorted (λ (p : Posted). p.entry) ∙ o.count ∙ as_many t signals goals passes known posts marks g e)
+      same_lists (entries_of sorted) e.history (length-map sorted (λ (p : Posted). p.entry) ∙ o.count ∙ as_many t goals passes known posts marks g e)
       (λ k x at.
       let m = mapped_at (λ (p : Posted). p.entry) sorted k x at in
       let q = o.numbered k m.0 m.1 in
@@ -286,7 +285,7 @@ module _ (t : Terms) (signals : SignalList) (goals : ℕ) (passes : List PassSta
   pub all_posted : All (IsPostedBy passes) (entries_of sorted)
   all_posted = All-map (IsPostedBy passes) (λ (p : Posted). p.entry) sorted (λ k d lt. All-contains (λ (p : Posted). IsPostedBy passes p.entry) posts (get_or sorted k d) g.posted (among_posts k d lt))
 
-  pub all_evidenced : AreEvidenced signals (entries_of sorted) (map (λ (p : Posted). p.evidence) sorted)
+  pub all_evidenced : AreEvidenced t (entries_of sorted) (map (λ (p : Posted). p.evidence) sorted)
   all_evidenced = record {
     count = length-map sorted (λ (p : Posted). p.evidence) ∙ sym (length-map sorted (λ (p : Posted). p.entry));
     each = λ k x v a b.
@@ -294,9 +293,9 @@ module _ (t : Terms) (signals : SignalList) (goals : ℕ) (passes : List PassSta
         let n = mapped_at (λ (p : Posted). p.evidence) sorted k v b in
         let same : n.0 ≡ m.0 = same_Some n.0 m.0 (sym n.1 ∙ m.1) in
         let here : m.0.evidence ≡ v = ap (λ (p : Posted). p.evidence) (sym same) ∙ n.2 in
-        let i : IsEvidenced signals m.0 = All-contains (IsEvidenced signals) posts m.0 g.evidenced ((o.numbered k m.0 m.1).0) in
-        subst (λ (y : Evidence). IsEvidenceOf signals x y) here
-        (subst (λ (y : Entry). IsEvidenceOf signals y m.0.evidence) m.2 record { checked = i.checked; signals_are = i.signals_are; goal = i.goal; kind = i.kind });
+        let i : IsEvidenced t m.0 = All-contains (IsEvidenced t) posts m.0 g.evidenced ((o.numbered k m.0 m.1).0) in
+        subst (λ (y : Evidence). IsEvidenceOf t x y) here
+        (subst (λ (y : Entry). IsEvidenceOf t y m.0.evidence) m.2 record { checked = i.checked; signals_are = i.signals_are; goal = i.goal; kind = i.kind; shown = i.shown });
   }
 
   pub all_settled : All (λ (p : PassState). All (HasEntry (entries_of sorted)) p.known.settled) passes

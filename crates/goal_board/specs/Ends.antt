@@ -1,6 +1,5 @@
 -- How posts are gathered: all seats become one, its entries are the history, and each post goes to its number.
 use Rattle.std.specs.Prelude.{◌≡◌, ℕ, ◌*◌, ◌≤◌, cond, List, [], ◌∷◌, ◌++◌, length, map, slice_get, slice_set, nat_eq, nat_lt, All, Contains, Option, None, Some}
-use Rattle.aig_model.specs.SignalList.{SignalList}
 use Rattle.board_core.specs.declared.entry.Entry.{Entry}
 use Rattle.board_core.specs.declared.view.GoalMark.{GoalMark}
 use Rattle.board_core.specs.declared.view.View.{View as Known}
@@ -44,20 +43,20 @@ abbrev pub IsAmong : List Posted → PassState → Type 0
 IsAmong posts pass = (k : ℕ) (e : Entry) (v : Evidence) → slice_get pass.known.entries k ≡ Some e → slice_get pass.evidence k ≡ Some v → Contains posts (record { entry = e; evidence = v })
 
 -- these are the posts of the passes, whose callers handed all that they know to one
-pub record AreGathered (signals : SignalList) (goals : ℕ) (passes : List PassState) (known : Known) (posts : List Posted) : Type 0 where
+pub record AreGathered (t : Terms) (goals : ℕ) (passes : List PassState) (known : Known) (posts : List Posted) : Type 0 where
   pub among : All (IsAmong posts) passes
   pub posted : All (λ (p : Posted). IsPostedBy passes p.entry) posts
-  pub evidenced : All (IsEvidenced signals) posts
+  pub evidenced : All (IsEvidenced t) posts
   pub few : length posts ≤ length passes * goals
   pub handed : (e : Entry) → Contains (entries_of posts) e → Contains known.entries e
   pub times_are : (n : ℕ) → times n known.entries ≡ times n (entries_of posts)
   pub settled : All (λ (p : PassState). All (Contains known.settled) p.known.settled) passes
 
 -- some of all passes are taken in, behind those that are left, and one of them is the caller's who has what they know
-pub record AreTaken (signals : SignalList) (goals : ℕ) (all left : List PassState) (caller : ℕ) (known : Known) (posts : List Posted) : Type 0 where
+pub record AreTaken (t : Terms) (goals : ℕ) (all left : List PassState) (caller : ℕ) (known : Known) (posts : List Posted) : Type 0 where
   pub taken : List PassState
   pub split : all ≡ left ++ taken
-  pub gathered : AreGathered signals goals taken known posts
+  pub gathered : AreGathered t goals taken known posts
   pub its : PassState
   pub its_in : Contains taken its
   pub its_caller : its.caller ≡ caller

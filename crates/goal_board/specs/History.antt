@@ -1,6 +1,5 @@
 -- The history that a board ends with, with its evidence and the marks of its goals.
 use Rattle.std.specs.Prelude.{◌≡◌, ℕ, List, length, slice_get, All, Contains, Option, None, Some}
-use Rattle.aig_model.specs.SignalList.{SignalList}
 use Rattle.board_core.specs.declared.entry.Entry.{Entry}
 use Rattle.board_core.specs.declared.event.Event.{Event}
 use Rattle.board_core.specs.History.{IsLegalHistory, IsInOrder}
@@ -9,7 +8,7 @@ use Rattle.board_core.specs.Good.{IsEntry, Leads}
 use Rattle.inv_cert.specs.Evidences.{Evidence, IsEvidence, kind_of}
 use Rattle.goal_board.specs.declared.view.Terms.{Terms}
 use Rattle.goal_board.specs.Rule.{IsFound}
-use Rattle.goal_board.specs.Passes.{PassState}
+use Rattle.goal_board.specs.Passes.{PassState, IsShownBy}
 
 -- the history is legal, what a caller had seen stands before its entry, and each source settles its goal
 pub record IsHistory (t : Terms) (history : List Entry) : Type 0 where
@@ -40,17 +39,18 @@ pub record IsPostedBy (passes : List PassState) (e : Entry) : Type 0 where
   pub one : Contains passes pass
   pub its : Contains pass.known.entries e
 
--- the evidence was checked, is for these signals, and of the entry's goal and kind
-pub record IsEvidenceOf (signals : SignalList) (e : Entry) (v : Evidence) : Type 0 where
+-- the evidence was checked, is for the board's signals, and of the entry's goal and kind, and has what the source has to show
+pub record IsEvidenceOf (t : Terms) (e : Entry) (v : Evidence) : Type 0 where
   pub checked : IsEvidence v
-  pub signals_are : v.signals ≡ signals
+  pub signals_are : v.signals ≡ t.signals.value
   pub goal : v.goal ≡ e.goal
   pub kind : kind_of v.basis ≡ e.kind
+  pub shown : IsShownBy t e.source v.basis
 
 -- each entry has evidence, which stands at the entry's place
-pub record AreEvidenced (signals : SignalList) (history : List Entry) (evidence : List Evidence) : Type 0 where
+pub record AreEvidenced (t : Terms) (history : List Entry) (evidence : List Evidence) : Type 0 where
   pub count : length evidence ≡ length history
-  pub each : (k : ℕ) (e : Entry) (v : Evidence) → IsEntry history k e → slice_get evidence k ≡ Some v → IsEvidenceOf signals e v
+  pub each : (k : ℕ) (e : Entry) (v : Evidence) → IsEntry history k e → slice_get evidence k ≡ Some v → IsEvidenceOf t e v
 
 -- some entry is for the goal
 pub record HasEntry (history : List Entry) (goal : ℕ) : Type 0 where

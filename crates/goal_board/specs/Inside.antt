@@ -1,10 +1,9 @@
 -- What boards and passes are made of.
-use Rattle.std.specs.Prelude.{◌≡◌, ◌≢◌, ℕ, ◌+◌, ◌*◌, ◌<◌, ◌≤◌, Bool, true, false, List, [], None, length, map, get_or, All}
+use Rattle.std.specs.Prelude.{◌≡◌, ◌≢◌, ℕ, ◌+◌, ◌*◌, ◌<◌, ◌≤◌, Bool, true, false, List, [], None, Some, length, map, get_or, All}
 use Rattle.std.specs.Vec.{vec_capacity}
 use Rattle.std.specs.declared.vec.Vec.{Vec}
 use Rattle.std.specs.Global.{Global}
 use Rattle.atomic_table.specs.Seated.{TableId}
-use Rattle.aig_model.specs.SignalList.{SignalList}
 use Rattle.board_core.specs.declared.entry.Entry.{Entry}
 use Rattle.inv_cert.specs.Evidences.{IsEvidence, kind_of}
 use Rattle.goal_board.specs.declared.view.View.{View}
@@ -14,7 +13,7 @@ use Rattle.goal_board.specs.declared.space.Space.{Space}
 use Rattle.goal_board.specs.Lists.{trues}
 use Rattle.goal_board.specs.Rule.{Sat}
 use Rattle.board_core.specs.Core.{fresh_view}
-use Rattle.goal_board.specs.Passes.{BoardState, PassState}
+use Rattle.goal_board.specs.Passes.{BoardState, PassState, IsShownBy}
 
 abbrev pub board_state : TableId → Terms → BoardState
 board_state table terms = record { table = table; terms = terms }
@@ -24,26 +23,26 @@ pub record IsBoardTable (table : TableId) (terms : Terms) : Type 0 where
   pub slots : table.slots ≡ 0
   pub callers : 0 < terms.callers
 
-abbrev pub pass_state : SignalList → List Bool → List Posted → TableId → View → PassState
-pass_state signals posted posts table v = record {
+abbrev pub pass_state : List Bool → List Posted → TableId → View → PassState
+pass_state posted posts table v = record {
   table = table;
   terms = v.terms;
-  signals = signals;
   goals = length posted;
   caller = v.caller;
   known = v.known;
   evidence = map (λ (p : Posted). p.evidence) posts;
 }
 
--- the evidence was checked, is for these signals, and of the entry's goal and kind
-pub record IsEvidenced (signals : SignalList) (p : Posted) : Type 0 where
+-- the evidence was checked, is for the board's signals, and of the entry's goal and kind, and has what the source has to show
+pub record IsEvidenced (t : Terms) (p : Posted) : Type 0 where
   pub checked : IsEvidence p.evidence
-  pub signals_are : p.evidence.signals ≡ signals
+  pub signals_are : p.evidence.signals ≡ t.signals.value
   pub goal : p.evidence.goal ≡ p.entry.goal
   pub kind : kind_of p.evidence.basis ≡ p.entry.kind
+  pub shown : IsShownBy t p.entry.source p.evidence.basis
 
 -- a pass between two calls
-pub record IsPass (posts : Vec Posted Global) (posted : List Bool) (by front : ℕ) (signals : SignalList) (me : Sat) : Type 0 where
+pub record IsPass (posts : Vec Posted Global) (posted : List Bool) (by front : ℕ) (me : Sat) : Type 0 where
   pub parts : me.0.parts ≡ 1
   pub slots : me.1 ≡ []
   pub caller : me.0.caller ≡ by
@@ -58,7 +57,7 @@ pub record IsPass (posts : Vec Posted Global) (posted : List Bool) (by front : �
   -- so there is room for each post that it may still make
   pub left : length posts.items + me.0.left ≡ length posted
   pub room : length posted ≤ vec_capacity posts
-  pub evidenced : All (IsEvidenced signals) posts.items
+  pub evidenced : (t : Terms) → me.0.terms ≡ Some t → All (IsEvidenced t) posts.items
 
 -- nothing is in it yet, and there is room for so many posts, and marks of so many goals
 pub record IsSpace (space : Space) (posts goals : ℕ) : Type 0 where

@@ -1,5 +1,4 @@
 pub mod Lists
-pub mod Found
 pub mod Rule
 pub mod Passes
 pub mod History

@@ -1,14 +1,18 @@
 -- Boards and passes, as contracts see them.
 use Rattle.std.specs.Prelude.{◌≡◌, ◌≢◌, ℕ, ◌+◌, ◌<◌, max, List, [], length, All, AllPairs, Option, Some, None}
 use Rattle.atomic_table.specs.Seated.{TableId}
-use Rattle.aig_model.specs.SignalList.{SignalList}
 use Rattle.board_core.specs.declared.entry.Entry.{Entry}
 use Rattle.board_core.specs.declared.entry.Source.{Source}
+use Rattle.board_core.specs.declared.entry.Source.TheVariants.{Zero, Walk, Sweep, Hop, Again, Proved}
 use Rattle.board_core.specs.declared.view.GoalMark.{GoalMark}
 use Rattle.board_core.specs.declared.view.View.{View as Known}
 use Rattle.board_core.specs.History.{kind_of}
 use Rattle.board_core.specs.Core.{fresh_view}
+use Rattle.inv_cert.specs.Certificates.{CertificateParts}
 use Rattle.inv_cert.specs.Evidences.{Evidence}
+use Rattle.inv_cert.specs.declared.evidence.Basis.{Basis}
+use Rattle.inv_cert.specs.declared.evidence.Basis.TheVariants.{Clauses}
+use Rattle.goal_facts.specs.Invariants.{IsGreatestInvariant}
 use Rattle.goal_board.specs.declared.view.Terms.{Terms}
 use Rattle.goal_board.specs.declared.calls.Look.{Look}
 use Rattle.goal_board.specs.declared.calls.Look.TheVariants as looks
@@ -18,11 +22,10 @@ pub record BoardState : Type 0 where
   pub table : TableId
   pub terms : Terms
 
--- a pass: its board's table, terms, signals and number of goals; its caller, what that knows, and the evidence that it posted, in order
+-- a pass: its board's table, terms and number of goals; its caller, what that knows, and the evidence that it posted, in order
 pub record PassState : Type 0 where
   pub table : TableId
   pub terms : Option Terms
-  pub signals : SignalList
   pub goals : ℕ
   pub caller : ℕ
   pub known : Known
@@ -39,7 +42,6 @@ abbrev pub new_pass : BoardState → ℕ → PassState
 new_pass board caller = record {
   table = board.table;
   terms = Some board.terms;
-  signals = board.terms.signals.value;
   goals = board.terms.goals;
   caller = caller;
   known = fresh_view;
@@ -50,7 +52,6 @@ new_pass board caller = record {
 pub record IsPassOf (board : BoardState) (pass : PassState) : Type 0 where
   pub table : pass.table ≡ board.table
   pub terms : pass.terms ≡ Some board.terms
-  pub signals : pass.signals ≡ board.terms.signals.value
   pub goals : pass.goals ≡ board.terms.goals
 
 -- the passes are all those of the board, in any order
@@ -65,6 +66,16 @@ pub record AreAllOf (board : BoardState) (s : PassesState) : Type 0 where
 pub record MayPost (pass : PassState) (goal : ℕ) : Type 0 where
   pub range : goal < pass.goals
   pub new : All (λ (e : Entry). e.goal ≢ goal) pass.known.entries
+
+-- What evidence has to show beside its goal. Clauses of the prover are all of the greatest invariant among the candidates, in their order.
+abbrev pub IsShownBy : Terms → Source → Basis → Type 0
+IsShownBy t Zero basis = Unit {0}
+IsShownBy t (Walk b) basis = Unit {0}
+IsShownBy t Sweep basis = Unit {0}
+IsShownBy t (Hop b) basis = Unit {0}
+IsShownBy t (Again r) basis = Unit {0}
+IsShownBy t Proved basis =
+    (cert : CertificateParts) → basis ≡ Clauses cert → IsGreatestInvariant t.signals.value.circuit t.signals.value.lits t.options.strength cert.base.clauses
 
 -- the entry of a post
 abbrev pub posted_entry : ℕ → ℕ → Source → ℕ → ℕ → Entry

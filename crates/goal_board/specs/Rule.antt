@@ -12,12 +12,12 @@ use Rattle.board_core.specs.Core.{Core, HasView, mark_of, word_of, fresh_view, i
 use Rattle.board_core.specs.Good.{IsSound, Leads}
 use Rattle.goal_board.specs.declared.view.View.{View}
 use Rattle.goal_board.specs.declared.view.Terms.{Terms}
-use Rattle.goal_board.specs.Found.{Found, IsOfKind}
+use Rattle.goal_facts.specs.Found.{Found, IsOfKind}
 use Rattle.goal_board.specs.Lists.{total}
 
 -- the entry's source settles its goal, and the entry has the kind that the source has
 abbrev pub IsFound : Terms → Entry → Type 0
-IsFound t e = Found t.signals.value t.options e.source e.goal × (e.kind ≡ kind_of e.source)
+IsFound t e = Found t.signals.value.circuit t.signals.value.lits t.options e.source e.goal × (e.kind ≡ kind_of e.source)
 
 -- A live seat has the board's terms, and knows what its caller knows in the core.
 pub record Fits (t : Terms) (c : Core) (v : View) : Type 0 where
@@ -92,7 +92,7 @@ pub record MayNumber (t : Terms) (v : View) (goal : ℕ) (source : Source) : Typ
   pub idle : v.known.unmarked ≡ None
   pub range : goal < t.goals
   pub first : All (λ (e : Entry). (e.caller ≢ v.caller) ⊎ (e.goal ≢ goal)) v.known.entries
-  pub found : Found t.signals.value t.options source goal
+  pub found : Found t.signals.value.circuit t.signals.value.lits t.options source goal
 
 abbrev pub Sat : Type 0
 Sat = Me (Unit {0}) View
@@ -108,7 +108,7 @@ Marks s m found w = w ≡ (marked m.0 (s.word - 1), m.1)
 -- A goal with no mark isn't one that the caller has seen settled. A mark's kind is true of the circuit.
 abbrev pub Tells : View → ℕ → Option GoalMark → Type 0
 Tells v g None = ¬ Contains v.known.settled g
-Tells v g (Some m) = (t : Terms) → v.terms ≡ Some t → IsOfKind t.signals.value m.kind g
+Tells v g (Some m) = (t : Terms) → v.terms ≡ Some t → IsOfKind t.signals.value.circuit t.signals.value.lits m.kind g
 
 -- the word is that of the mark that was found
 abbrev pub Looks : Step (Unit {0}) → Sat → ℕ → Sat → Type 0

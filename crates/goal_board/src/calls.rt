@@ -4,8 +4,8 @@ ghost use Rattle.std.specs.Prelude.{◌≡◌, ◌+◌, ◌/◌, ◌%◌, ◌<�
 ghost use Rattle.aig_model.specs.declared.parts.Kind.{Kind};
 ghost use Rattle.board_core.specs.declared.view.GoalMark.{GoalMark};
 ghost use Rattle.board_core.specs.Core.{word_of, with_entry, with_mark, with_look};
-ghost use Rattle.goal_board.specs.Found.{Found, IsOfKind};
-ghost use Rattle.goal_board.specs.Passes.{IsPassOf, MayPost, front_after, look_of, posted_entry};
+ghost use Rattle.goal_facts.specs.Found.{Found, IsOfKind};
+ghost use Rattle.goal_board.specs.Passes.{IsPassOf, IsShownBy, MayPost, front_after, look_of, posted_entry};
 ghost use Rattle.goal_board.specs.declared.calls.Look.TheVariants.{Unsettled, Settled};
 
 use crate::board::Board;
@@ -72,7 +72,7 @@ impl Board {
         ensures same { (pass.new.caller ≡ pass.old.caller) × (pass.new.evidence ≡ pass.old.evidence) }
         ensures known { (mark : Option GoalMark) × (result ≡ look_of mark) × (pass.new.known ≡ with_look pass.old.known goal mark) }
         ensures unsettled { result ≡ Unsettled → ¬ Contains pass.old.known.settled goal }
-        ensures settled { (kind : Kind) → result ≡ Settled kind → IsOfKind self.now.terms.signals.value kind goal }
+        ensures settled { (kind : Kind) → result ≡ Settled kind → IsOfKind self.now.terms.signals.value.circuit self.now.terms.signals.value.lits kind goal }
     {
         let found = mark_in(load(&self.table, &mut pass.seat, goal));
         pass.front = front_after(pass.front, found);
@@ -83,8 +83,9 @@ impl Board {
     pub fn post(&self, pass: &mut Pass, evidence: Evidence, source: Source) -> Receipt
         requires pass { IsPassOf self.now pass.old }
         requires evidence { evidence.signals ≡ self.now.terms.signals.value }
+        requires shown { IsShownBy self.now.terms source evidence.basis }
         requires new { MayPost pass.old evidence.goal }
-        requires found { Found self.now.terms.signals.value self.now.terms.options source evidence.goal }
+        requires found { Found self.now.terms.signals.value.circuit self.now.terms.signals.value.lits self.now.terms.options source evidence.goal }
         ensures pass { IsPassOf self.now pass.new }
         ensures caller { pass.new.caller ≡ pass.old.caller }
         ensures receipt { (result.low ≡ pass.old.known.front) × (result.low ≤ result.number) }

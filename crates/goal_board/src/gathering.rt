@@ -44,7 +44,7 @@ pub fn gather(board: Board, passes: Passes) -> Gathered
     // It has each post of each pass, which stands at its number, and nothing else.
     ensures posts { All (AreAtNumbers result.history result.evidence) passes.passes }
     ensures posted { All (IsPostedBy passes.passes) result.history }
-    ensures evidence { AreEvidenced board.terms.signals.value result.history result.evidence }
+    ensures evidence { AreEvidenced board.terms result.history result.evidence }
     ensures settled { All (λ (p : PassState). All (HasEntry result.history) p.known.settled) passes.passes }
     ensures marks { AreMarks board.terms.goals result.history result.marks }
 {
@@ -86,7 +86,7 @@ fn hand_over(
     requires goals { goals ≡ table.now.shared.key.goals }
     requires room { (posts.items ≡ []) × (length passes.items * goals ≤ vec_capacity posts) }
     ensures seat { (result.0.table_id ≡ table.now.shared.table_id) × (result.0.me.0.parts ≡ length passes.items) × (result.0.me.0.known.unmarked ≡ None) }
-    ensures posts { AreGathered table.now.shared.key.signals.value goals passes.items result.0.me.0.known result.1.items }
+    ensures posts { AreGathered table.now.shared.key goals passes.items result.0.me.0.known result.1.items }
 {
     let mut passes = passes;
     let mut all = posts;
@@ -98,7 +98,6 @@ fn hand_over(
         posted: _,
         caller: _,
         front: _,
-        signals: _,
         mut seat,
     } = last;
     append(&mut all, posts);
@@ -108,7 +107,6 @@ fn hand_over(
             posted: _,
             caller,
             front: _,
-            signals: _,
             seat: other,
         } = next;
         append(&mut all, posts);

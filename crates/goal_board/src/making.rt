@@ -15,7 +15,6 @@ use aig_model::Signals;
 use ketch_base::OutOfMemory;
 use sim_walk::Options;
 use std::alloc::Global;
-use std::snapshot::Snapshot;
 
 /// A board on which nothing was posted, and its callers' passes, with the room for all that they can post.
 pub fn make_board(
@@ -36,9 +35,9 @@ pub fn make_board(
     let (table, mut first) = set_up(alloc, signals, options, callers)?;
     for caller in 1..callers {
         let seat = cut(&table, &mut first);
-        passes.push_reserved(pass_of(alloc, signals, goals, caller, seat)?);
+        passes.push_reserved(pass_of(alloc, goals, caller, seat)?);
     }
-    passes.insert(0, pass_of(alloc, signals, goals, 0, first)?)?;
+    passes.insert(0, pass_of(alloc, goals, 0, first)?)?;
     Ok((
         Board { table },
         Passes {
@@ -51,16 +50,10 @@ pub fn make_board(
 }
 
 /// A caller's pass, with room for a post for each goal.
-fn pass_of(
-    alloc: Global,
-    signals: &Signals,
-    goals: u32,
-    caller: u32,
-    seat: TableSeat,
-) -> Result<Pass, OutOfMemory>
+fn pass_of(alloc: Global, goals: u32, caller: u32, seat: TableSeat) -> Result<Pass, OutOfMemory>
     requires fresh { IsFreshView caller goals seat.me.0 }
     requires slots { seat.me.1 ≡ [] }
-    ensures { IfOk result (λ p. p ≡ record { table = seat.table_id; terms = seat.me.0.terms; signals = signals.now; goals = goals; caller = caller; known = fresh_view; evidence = [] }) }
+    ensures { IfOk result (λ p. p ≡ record { table = seat.table_id; terms = seat.me.0.terms; goals = goals; caller = caller; known = fresh_view; evidence = [] }) }
 {
     let posts = Vec::with_capacity(alloc, goals as usize)?;
     let posted = vec![in alloc; false; goals as usize]?;
@@ -69,7 +62,6 @@ fn pass_of(
         posted,
         caller,
         front: 0,
-        signals: Snapshot::of(signals),
         seat,
     })
 }

@@ -4,11 +4,9 @@ ghost use Rattle.std.specs.Prelude.{◌≡◌, ◌↔◌, IsTrue};
 ghost use Rattle.goal_board.specs.Passes.{MayPost};
 
 use crate::table::TableSeat;
-use aig_model::Signals;
 use board_core::Entry;
 use inv_cert::Evidence;
 use std::marker::Model;
-use std::snapshot::Snapshot;
 
 // An entry, and the evidence for it.
 #[derive(Drop)]
@@ -26,7 +24,6 @@ pub struct Pass {
     pub(crate) caller: u32,
     // How much of the history the caller has seen.
     pub(crate) front: u64,
-    pub(crate) signals: Snapshot<Signals>,
     pub(crate) seat: TableSeat,
 }
 
@@ -36,9 +33,9 @@ impl Model for Pass {
 
     ghost Value = { PassState };
 
-    ghost view = { λ p. pass_state p.signals.value p.posted.items p.posts.items p.seat.table_id p.seat.me.0 };
+    ghost view = { λ p. pass_state p.posted.items p.posts.items p.seat.table_id p.seat.me.0 };
 
-    ghost invariant = { λ p. IsPass p.posts p.posted.items p.caller p.front p.signals.value p.seat.me };
+    ghost invariant = { λ p. IsPass p.posts p.posted.items p.caller p.front p.seat.me };
 }
 
 impl Pass {

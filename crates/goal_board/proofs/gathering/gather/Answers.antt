@@ -13,7 +13,7 @@ pub in_order-history-requires-clause-numbers : goal.in_order-history-requires-cl
 in_order-history-requires-clause-numbers c =
     let t : Terms = c.board.inside.table.shared.key in
     let passes : List PassState = c.passes.inside.passes.items in
-    taken.numbered_posts t t.signals.value c.passes.inside.goals passes c.hand_over-seat.result.0.me.0.known c.hand_over-seat.result.1.items c.close-marks.result.items c.hand_over-seat.ensures.posts c.close-marks.ensures
+    taken.numbered_posts t c.passes.inside.goals passes c.hand_over-seat.result.0.me.0.known c.hand_over-seat.result.1.items c.close-marks.result.items c.hand_over-seat.ensures.posts c.close-marks.ensures
 
 pub returns-clause-history : goal.returns-clause-history
 returns-clause-history c =
@@ -23,7 +23,7 @@ returns-clause-history c =
     let all : passes ≡ c.args.passes.passes = ap (λ (s : PassesState). s.passes) c.passes.view_is in
     let o = c.in_order-history.ensures in
     let history : c.from_vec.result ≡ entries_of o.0 = c.from_vec.ensures ∙ o.2 in
-    subst (IsHistory c.args.board.terms) (sym history) (subst (λ (x : Terms). IsHistory x (entries_of o.0)) same (taken.is_history t t.signals.value c.passes.inside.goals passes c.hand_over-seat.result.0.me.0.known c.hand_over-seat.result.1.items c.close-marks.result.items c.hand_over-seat.ensures.posts c.close-marks.ensures o.0 o.1))
+    subst (IsHistory c.args.board.terms) (sym history) (subst (λ (x : Terms). IsHistory x (entries_of o.0)) same (taken.is_history t c.passes.inside.goals passes c.hand_over-seat.result.0.me.0.known c.hand_over-seat.result.1.items c.close-marks.result.items c.hand_over-seat.ensures.posts c.close-marks.ensures o.0 o.1))
 
 pub returns-clause-events : goal.returns-clause-events
 returns-clause-events c =
@@ -33,7 +33,7 @@ returns-clause-events c =
     let all : passes ≡ c.args.passes.passes = ap (λ (s : PassesState). s.passes) c.passes.view_is in
     let o = c.in_order-history.ensures in
     let history : c.from_vec.result ≡ entries_of o.0 = c.from_vec.ensures ∙ o.2 in
-    subst (IsLed c.args.board.terms.goals) (sym history) (subst (λ (x : Terms). IsLed x.goals (entries_of o.0)) same (taken.is_led t t.signals.value c.passes.inside.goals passes c.hand_over-seat.result.0.me.0.known c.hand_over-seat.result.1.items c.close-marks.result.items c.hand_over-seat.ensures.posts c.close-marks.ensures o.0 o.1))
+    subst (IsLed c.args.board.terms.goals) (sym history) (subst (λ (x : Terms). IsLed x.goals (entries_of o.0)) same (taken.is_led t c.passes.inside.goals passes c.hand_over-seat.result.0.me.0.known c.hand_over-seat.result.1.items c.close-marks.result.items c.hand_over-seat.ensures.posts c.close-marks.ensures o.0 o.1))
 
 pub returns-clause-posts : goal.returns-clause-posts
 returns-clause-posts c =
@@ -46,7 +46,7 @@ returns-clause-posts c =
     let evidence : c.from_vec-2.result ≡ map (λ (p : Posted). p.evidence) o.0 = c.from_vec-2.ensures ∙ o.3 in
     subst (All (AreAtNumbers c.from_vec.result c.from_vec-2.result)) all
     (subst (λ (h : List Entry). All (AreAtNumbers h c.from_vec-2.result) passes) (sym history)
-    (subst (λ (v : List Evidence). All (AreAtNumbers (entries_of o.0) v) passes) (sym evidence) (taken.at_numbers t t.signals.value c.passes.inside.goals passes c.hand_over-seat.result.0.me.0.known c.hand_over-seat.result.1.items c.close-marks.result.items c.hand_over-seat.ensures.posts c.close-marks.ensures o.0 o.1)))
+    (subst (λ (v : List Evidence). All (AreAtNumbers (entries_of o.0) v) passes) (sym evidence) (taken.at_numbers t c.passes.inside.goals passes c.hand_over-seat.result.0.me.0.known c.hand_over-seat.result.1.items c.close-marks.result.items c.hand_over-seat.ensures.posts c.close-marks.ensures o.0 o.1)))
 
 pub returns-clause-posted : goal.returns-clause-posted
 returns-clause-posted c =
@@ -56,7 +56,7 @@ returns-clause-posted c =
     let all : passes ≡ c.args.passes.passes = ap (λ (s : PassesState). s.passes) c.passes.view_is in
     let o = c.in_order-history.ensures in
     let history : c.from_vec.result ≡ entries_of o.0 = c.from_vec.ensures ∙ o.2 in
-    subst (λ (ps : List PassState). All (IsPostedBy ps) c.from_vec.result) all (subst (All (IsPostedBy passes)) (sym history) (taken.all_posted t t.signals.value c.passes.inside.goals passes c.hand_over-seat.result.0.me.0.known c.hand_over-seat.result.1.items c.close-marks.result.items c.hand_over-seat.ensures.posts c.close-marks.ensures o.0 o.1))
+    subst (λ (ps : List PassState). All (IsPostedBy ps) c.from_vec.result) all (subst (All (IsPostedBy passes)) (sym history) (taken.all_posted t c.passes.inside.goals passes c.hand_over-seat.result.0.me.0.known c.hand_over-seat.result.1.items c.close-marks.result.items c.hand_over-seat.ensures.posts c.close-marks.ensures o.0 o.1))
 
 pub returns-clause-evidence : goal.returns-clause-evidence
 returns-clause-evidence c =
@@ -67,9 +67,9 @@ returns-clause-evidence c =
     let o = c.in_order-history.ensures in
     let history : c.from_vec.result ≡ entries_of o.0 = c.from_vec.ensures ∙ o.2 in
     let evidence : c.from_vec-2.result ≡ map (λ (p : Posted). p.evidence) o.0 = c.from_vec-2.ensures ∙ o.3 in
-    subst (λ (h : List Entry). AreEvidenced c.args.board.terms.signals.value h c.from_vec-2.result) (sym history)
-    (subst (AreEvidenced c.args.board.terms.signals.value (entries_of o.0)) (sym evidence)
-    (subst (λ (x : Terms). AreEvidenced x.signals.value (entries_of o.0) (map (λ (p : Posted). p.evidence) o.0)) same (taken.all_evidenced t t.signals.value c.passes.inside.goals passes c.hand_over-seat.result.0.me.0.known c.hand_over-seat.result.1.items c.close-marks.result.items c.hand_over-seat.ensures.posts c.close-marks.ensures o.0 o.1)))
+    subst (λ (h : List Entry). AreEvidenced c.args.board.terms h c.from_vec-2.result) (sym history)
+    (subst (AreEvidenced c.args.board.terms (entries_of o.0)) (sym evidence)
+    (subst (λ (x : Terms). AreEvidenced x (entries_of o.0) (map (λ (p : Posted). p.evidence) o.0)) same (taken.all_evidenced t c.passes.inside.goals passes c.hand_over-seat.result.0.me.0.known c.hand_over-seat.result.1.items c.close-marks.result.items c.hand_over-seat.ensures.posts c.close-marks.ensures o.0 o.1)))
 
 pub returns-clause-settled : goal.returns-clause-settled
 returns-clause-settled c =
@@ -80,7 +80,7 @@ returns-clause-settled c =
     let o = c.in_order-history.ensures in
     let history : c.from_vec.result ≡ entries_of o.0 = c.from_vec.ensures ∙ o.2 in
     subst (All (λ (p : PassState). All (HasEntry c.from_vec.result) p.known.settled)) all
-    (subst (λ (h : List Entry). All (λ (p : PassState). All (HasEntry h) p.known.settled) passes) (sym history) (taken.all_settled t t.signals.value c.passes.inside.goals passes c.hand_over-seat.result.0.me.0.known c.hand_over-seat.result.1.items c.close-marks.result.items c.hand_over-seat.ensures.posts c.close-marks.ensures o.0 o.1))
+    (subst (λ (h : List Entry). All (λ (p : PassState). All (HasEntry h) p.known.settled) passes) (sym history) (taken.all_settled t c.passes.inside.goals passes c.hand_over-seat.result.0.me.0.known c.hand_over-seat.result.1.items c.close-marks.result.items c.hand_over-seat.ensures.posts c.close-marks.ensures o.0 o.1))
 
 pub returns-clause-marks : goal.returns-clause-marks
 returns-clause-marks c =
@@ -92,4 +92,4 @@ returns-clause-marks c =
     let history : c.from_vec.result ≡ entries_of o.0 = c.from_vec.ensures ∙ o.2 in
     subst (AreMarks c.args.board.terms.goals c.from_vec.result) (sym c.from_vec-3.ensures)
     (subst (λ (h : List Entry). AreMarks c.args.board.terms.goals h c.close-marks.result.items) (sym history)
-    (subst (λ (x : Terms). AreMarks x.goals (entries_of o.0) c.close-marks.result.items) same (taken.all_marks t t.signals.value c.passes.inside.goals passes c.hand_over-seat.result.0.me.0.known c.hand_over-seat.result.1.items c.close-marks.result.items c.hand_over-seat.ensures.posts c.close-marks.ensures o.0 o.1)))
+    (subst (λ (x : Terms). AreMarks x.goals (entries_of o.0) c.close-marks.result.items) same (taken.all_marks t c.passes.inside.goals passes c.hand_over-seat.result.0.me.0.known c.hand_over-seat.result.1.items c.close-marks.result.items c.hand_over-seat.ensures.posts c.close-marks.ensures o.0 o.1)))

@@ -11,7 +11,7 @@ invariant-loop-next l = record {
   idle : l.seat.me.0.known.unmarked ≡ None;
   parts : l.seat.me.0.parts + length l.passes.items ≡ length l.fn.passes.items;
   room : length l.all.items + length l.passes.items * l.goals ≤ vec_capacity l.all;
-  taken : AreTaken l.table.shared.key.signals.value l.goals l.fn.passes.items l.passes.items l.seat.me.0.caller l.seat.me.0.known l.all.items;
+  taken : AreTaken l.table.shared.key l.goals l.fn.passes.items l.passes.items l.seat.me.0.caller l.seat.me.0.known l.all.items;
 }
 
 abbrev pub decreases-loop-next : goal.decreases-loop-next

@@ -20,7 +20,7 @@ loop-caller-preserved c =
     let terms = c.in_ok-table.ensures.terms in
     let board : BoardState = record { table = c.in_ok-table.table.shared.table_id; terms = c.in_ok-table.table.shared.key } in
     let goals : c.goals-goals.result ≡ board.terms.goals = c.goals-goals.ensures ∙ sym terms.2 in
-    let pass = c.in_ok-pass_of.ensures ∙ pass_is board c.cut-seat.result.table_id c.cut-seat.result.me.0.terms c.args.signals.now c.goals-goals.result c.loop-caller.caller (new.0 ∙ i.at) (ap (λ (m : Sat). m.0.terms) new.1 ∙ i.terms) (sym terms.0) goals in
+    let pass = c.in_ok-pass_of.ensures ∙ pass_is board c.cut-seat.result.table_id c.cut-seat.result.me.0.terms c.goals-goals.result c.loop-caller.caller (new.0 ∙ i.at) (ap (λ (m : Sat). m.0.terms) new.1 ∙ i.terms) goals in
     let parts : c.cut-seat.new.seat.me.0.parts ≡ c.loop-caller.first.me.0.parts - 1 = ap (λ (m : Sat). m.0.parts) me.1 in
     record {
       at = me.0 ∙ i.at;
@@ -44,7 +44,7 @@ made_passes c =
     let terms = c.in_ok-table.ensures.terms in
     let board : BoardState = record { table = c.in_ok-table.table.shared.table_id; terms = c.in_ok-table.table.shared.key } in
     let goals : c.goals-goals.result ≡ board.terms.goals = c.goals-goals.ensures ∙ sym terms.2 in
-    let pass = c.in_ok-pass_of-2.ensures ∙ pass_is board c.loop-caller.first.table_id c.loop-caller.first.me.0.terms c.args.signals.now c.goals-goals.result 0 i.at i.terms (sym terms.0) goals in
+    let pass = c.in_ok-pass_of-2.ensures ∙ pass_is board c.loop-caller.first.table_id c.loop-caller.first.me.0.terms c.goals-goals.result 0 i.at i.terms goals in
     let last : c.args.callers ≡ c.loop-caller.caller - 1 + 1 = omega (arith, c.loop-caller-test.false, c.loop-caller.auto.caller, c.loop-caller.auto.caller-end, c.requires.some) in
     c.in_ok-insert.ensures.items ∙ ap (λ (s : PassState). s ∷ c.loop-caller.passes.items) pass ∙ ap (λ l. new_pass board 0 ∷ l) i.passes ∙ range_front (new_pass board) (c.loop-caller.caller - 1) c.args.callers last
 

@@ -28,5 +28,5 @@ invariant_of-result c =
       counted = ap trues down ∙ no_trues c.args.goals ∙ sym (ap length none);
       left = omega (arith, fresh.left, ap length none, c.in_ok-posted.ensures.len);
       room = omega (arith, c.in_ok-posted.ensures.len, c.in_ok-posts.ensures.capacity);
-      evidenced = subst (All (IsEvidenced c.of.result.value)) (sym none) (All-nil (IsEvidenced c.of.result.value));
+      evidenced = λ t told. subst (All (IsEvidenced t)) (sym none) (All-nil (IsEvidenced t));
     }

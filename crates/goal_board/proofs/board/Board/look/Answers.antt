@@ -11,6 +11,6 @@ invariant_of-pass c =
     let seen = c.load.ensures.looked in
     let found = c.mark_in-found.ensures.mark seen.0 seen.1 in
     let front : front_after p.front seen.0 ≡ c.front_after-pass-inside.result = ap (front_after p.front) (sym found) ∙ sym c.front_after-pass-inside.ensures in
-    subst (λ (m : Sat). IsPass p.posts p.posted.items p.caller c.front_after-pass-inside.result p.signals.value m) (sym seen.2)
-    (subst (λ (x : ℕ). IsPass p.posts p.posted.items p.caller x p.signals.value (looked p.seat.me.0 c.args.goal seen.0, p.seat.me.1)) front
-    (pass_looked p.posts p.posted.items p.caller p.front p.signals.value p.seat.me c.args.goal seen.0 c.pass.invariant))
+    subst (λ (m : Sat). IsPass p.posts p.posted.items p.caller c.front_after-pass-inside.result m) (sym seen.2)
+    (subst (λ (x : ℕ). IsPass p.posts p.posted.items p.caller x (looked p.seat.me.0 c.args.goal seen.0, p.seat.me.1)) front
+    (pass_looked p.posts p.posted.items p.caller p.front p.seat.me c.args.goal seen.0 c.pass.invariant))

@@ -1,0 +1,5 @@
+use Rattle.goal_facts.proofs.Truth as lemmas
+use Rattle.goal_facts.proofs.laws.found_is_in_range.Goals as goal
+
+pub returns : goal.returns
+returns c = lemmas.found_is_in_range

@@ -1,0 +1,4 @@
+pub mod Found
+pub mod Invariants
+pub mod Laws
+pub mod Seeds
