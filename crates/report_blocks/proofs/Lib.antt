@@ -1,0 +1,4 @@
+pub mod GoalsRead
+pub mod QueriesRead
+pub mod RowsRead
+pub mod WitnessRead

@@ -1,0 +1,3 @@
+pub mod FirstFault
+pub mod ReportRead
+pub mod WholeRead

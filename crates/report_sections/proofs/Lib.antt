@@ -1,0 +1,14 @@
+pub mod CertsRead
+pub mod Combine
+pub mod HeadRead
+pub mod HistoryRead
+pub mod Items
+pub mod ItemsRead
+pub mod LineWords
+pub mod Numbers
+pub mod Pairs
+pub mod Parses
+pub mod ProofRead
+pub mod SeedsRead
+pub mod Stops
+pub mod Until

@@ -1,0 +1,8 @@
+use Rattle.std.proofs.Common.{◌≡◌, []}
+use Rattle.std.specs.Prelude.{codes}
+use Rattle.report_lines.specs.Words.{until}
+use Rattle.report_sections.specs.Proofs.{literal_of}
+use Rattle.report_sections.proofs.clauses.take_clause.Given as goal
+
+abbrev pub invariant-loop-word : goal.invariant-loop-word
+invariant-loop-word l = until (codes "0") literal_of l.clause l.words ≡ until (codes "0") literal_of [] l.fn.words
