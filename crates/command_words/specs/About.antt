@@ -20,13 +20,13 @@ abbrev pub options_text : List ℕ
 options_text =
     codes "Options of cover, in any order, each with a number:\n\n"
     ++ codes "  --depth     0..200                     steps of the search from reset [10]\n"
-    ++ codes "  --batches   0                          batches of random walks [0]\n"
+    ++ codes "  --batches   0..16                      batches of random walks [2]\n"
     ++ codes "  --length    1..100000                  steps of a walk [1000]\n"
     ++ codes "  --stall     1..100000                  steps after which a walk that finds nothing ends [100]\n"
     ++ codes "  --hop       0..50                      steps of a search from a simulated state [4]\n"
     ++ codes "  --seed      0..18446744073709551615    start of the random numbers [1]\n"
     ++ codes "  --lemmas    1..1000000                 lemmas that a query may spend [20000]\n"
-    ++ codes "  --strength  0                          literals of an inductive clause [0]\n"
+    ++ codes "  --strength  0..2                       literals of an inductive clause [2]\n"
     ++ codes "  --rounds    0                          rounds after the first [0]\n"
     ++ codes "  --workers   1..8                       threads [4]\n\n"
 

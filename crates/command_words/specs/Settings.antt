@@ -31,13 +31,13 @@ setting_of name =
 
 abbrev pub scale_of : Setting → Scale
 scale_of Depth = record { least = 0; greatest = 200; unset = 10 }
-scale_of Batches = record { least = 0; greatest = 0; unset = 0 }
+scale_of Batches = record { least = 0; greatest = 16; unset = 2 }
 scale_of Length = record { least = 1; greatest = 100000; unset = 1000 }
 scale_of Stall = record { least = 1; greatest = 100000; unset = 100 }
 scale_of Hop = record { least = 0; greatest = 50; unset = 4 }
 scale_of Seed = record { least = 0; greatest = 18446744073709551615; unset = 1 }
 scale_of Lemmas = record { least = 1; greatest = 1000000; unset = 20000 }
-scale_of Strength = record { least = 0; greatest = 0; unset = 0 }
+scale_of Strength = record { least = 0; greatest = 2; unset = 2 }
 scale_of Rounds = record { least = 0; greatest = 0; unset = 0 }
 scale_of Workers = record { least = 1; greatest = 8; unset = 4 }
 

@@ -17,13 +17,13 @@ const HELP: &str = "Usage: ketch COMMAND ..
 Options of cover, in any order, each with a number:
 
   --depth     0..200                     steps of the search from reset [10]
-  --batches   0                          batches of random walks [0]
+  --batches   0..16                      batches of random walks [2]
   --length    1..100000                  steps of a walk [1000]
   --stall     1..100000                  steps after which a walk that finds nothing ends [100]
   --hop       0..50                      steps of a search from a simulated state [4]
   --seed      0..18446744073709551615    start of the random numbers [1]
   --lemmas    1..1000000                 lemmas that a query may spend [20000]
-  --strength  0                          literals of an inductive clause [0]
+  --strength  0..2                       literals of an inductive clause [2]
   --rounds    0                          rounds after the first [0]
   --workers   1..8                       threads [4]
 

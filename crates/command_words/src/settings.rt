@@ -129,12 +129,14 @@ fn scale_of(setting: Setting) -> Scale
 {
     match setting {
         Setting::Depth => scale_from(0, 200, 10),
-        Setting::Batches | Setting::Strength | Setting::Rounds => scale_from(0, 0, 0),
+        Setting::Batches => scale_from(0, 16, 2),
+        Setting::Strength => scale_from(0, 2, 2),
         Setting::Length => scale_from(1, 100_000, 1000),
         Setting::Stall => scale_from(1, 100_000, 100),
         Setting::Hop => scale_from(0, 50, 4),
         Setting::Seed => scale_from(0, u64::MAX, 1),
         Setting::Lemmas => scale_from(1, 1_000_000, 20_000),
+        Setting::Rounds => scale_from(0, 0, 0),
         Setting::Workers => scale_from(1, 8, 4),
     }
 }
