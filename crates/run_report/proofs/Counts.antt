@@ -1,9 +1,9 @@
 -- Counts of blocks, and pairs in lists.
-use Rattle.std.proofs.Common.{◌≡◌, ℕ, suc, ◌+◌, ◌-◌, ◌<◌, Bool, true, false, List, [], ◌∷◌, ◌++◌, length, get_or, cond, refl, sym, subst, arith, Contains, inl, inr}
-use Rattle.std.specs.Prelude.{count_by, AllPairs}
-use Rattle.std.proofs.lemmas.Bool.{cases_lt, false≢true}
-use Rattle.std.proofs.lemmas.List.{get_or_append_left, get_or-append_right, length-append}
-use Rattle.std.proofs.lemmas.List.Elements.{Contains-get_or}
+use Rattle.std.proofs.Common.{◌≡◌, ℕ, zero, suc, ◌+◌, ◌-◌, ◌<◌, ◌≤◌, Bool, true, false, List, [], ◌∷◌, ◌++◌, length, get_or, take, cond, refl, sym, ap, subst, ◌∙◌, arith, All, Contains, Some, inl, inr}
+use Rattle.std.specs.Prelude.{slice_get, count_by, AllPairs}
+use Rattle.std.proofs.lemmas.Bool.{cases_lt, cases_Bool, false≢true}
+use Rattle.std.proofs.lemmas.List.{get_or_append_left, get_or-append_right, length-append, take_all, take_more}
+use Rattle.std.proofs.lemmas.List.Elements.{All-push, Contains-get_or}
 use Rattle.std.proofs.lemmas.List.Sums.{sum_by-cons}
 use Rattle.report_text.specs.declared.report.GoalBlock.{GoalBlock}
 use Rattle.report_text.specs.declared.report.GoalBlock.TheVariants as blocks
@@ -28,12 +28,35 @@ zero_if : (t : Bool) → t ≡ false → ◌≡◌ {A = ℕ} (cond t 1 0) 0
 zero_if true e = absurd (false≢true (sym e))
 zero_if false e = refl
 
--- of a list of which none is unreachable
-pub none_unreachable : (bs : List GoalBlock) → ((k : ℕ) (d : GoalBlock) → k < length bs → is_unreachable (get_or bs k d) ≡ false) → count_by is_unreachable bs ≡ 0
-none_unreachable [] h = refl
-none_unreachable (b ∷ bs) h =
-    let rest : count_by is_unreachable bs ≡ 0 = none_unreachable bs (λ k d l. h (suc k) d (omega (arith, l))) in
-    omega (arith, rest, zero_if (is_unreachable b) (h 0 b (omega arith)), sum_by-cons (λ x. cond (is_unreachable x) 1 0) b bs)
+one_if : (t : Bool) → t ≡ true → ◌≡◌ {A = ℕ} (cond t 1 0) 1
+one_if true e = refl
+one_if false e = absurd (false≢true e)
+
+-- where one is unreachable the count isn't 0, and where it isn't 0 one is
+pub some_unreachable : (bs : List GoalBlock) (g : ℕ) (b : GoalBlock) → slice_get bs g ≡ Some b → is_unreachable b ≡ true → 0 < count_by is_unreachable bs
+some_unreachable [] g b e un = absurd cc
+some_unreachable (x ∷ bs) zero b e un =
+    let same : x ≡ b = cc in
+    omega (arith, sum_by-cons (λ y. cond (is_unreachable y) 1 0) x bs, one_if (is_unreachable x) (ap is_unreachable same ∙ un))
+some_unreachable (x ∷ bs) (suc g) b e un = omega (arith, sum_by-cons (λ y. cond (is_unreachable y) 1 0) x bs, some_unreachable bs g b e un)
+
+pub unreachable_place : (bs : List GoalBlock) → 0 < count_by is_unreachable bs → (g : ℕ) × (b : GoalBlock) × (slice_get bs g ≡ Some b) × (is_unreachable b ≡ true)
+unreachable_place [] some = absurd (omega (arith, some))
+unreachable_place (x ∷ bs) some = elim (cases_Bool (is_unreachable x)) [
+  | inl is ↦ (0, x, refl, is)
+  | inr isnt ↦ (
+      let rest = unreachable_place bs (omega (arith, some, sum_by-cons (λ y. cond (is_unreachable y) 1 0) x bs, zero_if (is_unreachable x) isnt)) in
+      (suc rest.0, rest.1, rest.2, rest.3)
+      )
+]
+
+-- ---- lists, item by item
+pub all_more : {X : Type 0} (P : X → Type 0) (xs : List X) (k : ℕ) (x : X) → k < length xs → x ≡ get_or xs k x → All P (take k xs) → P x → All P (take (k + 1) xs)
+all_more {X = X} P xs k x inside here before own =
+    subst (λ (ys : List X). All P ys) (sym (take_more xs k x inside ∙ ap (λ (y : X). take k xs ++ y ∷ []) (sym here))) (All-push P (take k xs) x before own)
+
+pub all_whole : {X : Type 0} (P : X → Type 0) (xs : List X) (k : ℕ) → length xs ≤ k → All P (take k xs) → All P xs
+all_whole {X = X} P xs k whole all = subst (λ (ys : List X). All P ys) (take_all k xs whole) all
 
 -- ---- pairs
 pub pairs_append : {X : Type 0} (R : X → X → Type 0) (xs ys : List X) → AllPairs R xs → AllPairs R ys → ((x y : X) → Contains xs x → Contains ys y → R x y) → AllPairs R (xs ++ ys)

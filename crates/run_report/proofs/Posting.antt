@@ -8,12 +8,11 @@ use Rattle.std.proofs.lemmas.Option.{slice_get-get_or, slice_get_within, get_or_
 use Rattle.aig_model.specs.declared.parts.Parts.{Parts}
 use Rattle.sim_walk.specs.declared.options.Options.{Options}
 use Rattle.board_core.specs.declared.entry.Entry.{Entry}
-use Rattle.board_core.specs.History.{IsInRange, IsLegalEntry, IsLegalHistory, IsInOrder, kind_of}
+use Rattle.board_core.specs.History.{IsLegalEntry, IsLegalHistory, IsInOrder}
 use Rattle.report_text.specs.declared.report.Inv.{Inv}
 use Rattle.run_report.specs.declared.posts.Finding.{Finding}
 use Rattle.run_report.specs.declared.posts.Post.{Post}
-use Rattle.run_report.specs.Found.{Found}
-use Rattle.run_report.specs.Posts.{entries_of, kind_of_basis, IsBasis, IsPost, IsHistory, HasEntry, post_of, posts_of}
+use Rattle.run_report.specs.Posts.{entries_of, IsPost, IsFinding, IsHistory, HasEntry, post_of, posts_of}
 use Rattle.run_report.specs.Run.{goals_of}
 use Rattle.run_report.proofs.History.{has_entry, entry_at}
 
@@ -81,14 +80,6 @@ goal_read : (fs : List Finding) (k : ℕ) (d : Entry) → k < length (entries_of
 goal_read fs k d l = ap (λ (gs : List ℕ). get_or gs k 0) (sym (goals-of_posts fs)) ∙ get_or-map (λ (e : Entry). e.goal) (entries_of (posts_of fs)) k d 0 l
 
 -- ---- the history
--- what is known of a finding
-pub record IsFinding (c : Parts) (sig : List ℕ) (o : Options) (inv : Option Inv) (f : Finding) : Type 0 where
-  pub found : Found c sig o f.source f.goal
-  pub kind : kind_of f.source ≡ kind_of_basis f.basis
-  pub basis : IsBasis c sig inv f.goal f.basis
-  pub below : f.goal < 2 ^ length sig
-  pub range : IsInRange o f.source
-
 finding_at : (c : Parts) (sig : List ℕ) (o : Options) (inv : Option Inv) (fs : List Finding) (k : ℕ) (f : Finding) → All (IsFinding c sig o inv) fs → slice_get fs k ≡ Some f
     → IsFinding c sig o inv f
 finding_at c sig o inv fs k f all h = subst (IsFinding c sig o inv) (get_or_from_slice_get fs k f f h) (all k f (slice_get_within fs k f h))

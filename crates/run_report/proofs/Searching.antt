@@ -28,14 +28,14 @@ use Rattle.unroll.specs.declared.start.Start.TheVariants.{Reset}
 use Rattle.run_report.specs.declared.posts.Basis.{Basis}
 use Rattle.run_report.specs.declared.posts.Finding.{Finding}
 use Rattle.run_report.specs.Bounds.{sweep_step, first_step, whole_up_to}
-use Rattle.run_report.specs.Ends.{optional, AreTold}
+use Rattle.run_report.specs.Ends.{optional, IsSearchTold}
 use Rattle.run_report.specs.Found.{Found}
-use Rattle.run_report.specs.Posts.{entries_of, kind_of_basis, HasEntry, IsBasis, IsHistory, posts_of}
+use Rattle.run_report.specs.Posts.{entries_of, kind_of_basis, HasEntry, IsBasis, IsFinding, posts_of}
 use Rattle.run_report.specs.Queries.{IsSpentSearch}
 use Rattle.run_report.specs.Ranges.{AreRunnable}
-use Rattle.run_report.specs.Run.{goals_of, IsZeroFinding, sweep_finding, sweep_block, sweep_ends}
+use Rattle.run_report.specs.Run.{goals_of, IsZeroFinding, sweep_finding, sweep_block}
 use Rattle.run_report.proofs.Counts.{pairs_append}
-use Rattle.run_report.proofs.Posting.{IsFinding, posts_history, has_entry_of}
+use Rattle.run_report.proofs.Posting.{has_entry_of}
 
 -- ---- the walk
 -- the finding at a place is that of the visit there
@@ -155,14 +155,14 @@ pub record IsSearched (c : Parts) (sig : List ℕ) (o : Options) (vs : List Visi
 abbrev pub all_findings : List Finding → Swept → List Finding
 all_findings zs s = zs ++ map sweep_finding s.found
 
-each_found : (c : Parts) (sig : List ℕ) (o : Options) (vs : List Visit) (zs : List Finding) (known : List Bool) (s : Swept) → IsSearched c sig o vs zs known s
+pub each_found : (c : Parts) (sig : List ℕ) (o : Options) (vs : List Visit) (zs : List Finding) (known : List Bool) (s : Swept) → IsSearched c sig o vs zs known s
     → All (IsFinding c sig o None) (all_findings zs s)
 each_found c sig o vs zs known s h =
     All-append (IsFinding c sig o None) zs (map sweep_finding s.found)
     (λ k d l. zero_finding c sig o vs k (get_or zs k d) h.walked (of_visit c vs zs k (get_or zs k d) h.zip (slice_get-get_or zs k d l)))
     (swept_found c sig o s.found h.swept.found.reached h.swept.shallow)
 
-once_all : (c : Parts) (sig : List ℕ) (o : Options) (vs : List Visit) (zs : List Finding) (known : List Bool) (s : Swept) → IsSearched c sig o vs zs known s
+pub once_all : (c : Parts) (sig : List ℕ) (o : Options) (vs : List Visit) (zs : List Finding) (known : List Bool) (s : Swept) → IsSearched c sig o vs zs known s
     → AllPairs (λ m n. m ≢ n) (goals_of (all_findings zs s))
 once_all c sig o vs zs known s h =
     let first : AllPairs (λ m n. m ≢ n) (goals_of zs) =
@@ -215,20 +215,14 @@ end_spent c sig o vs zs known s (Some q) h end = (
   },
 )
 
-pub searched_history : (c : Parts) (sig : List ℕ) (o : Options) (vs : List Visit) (zs : List Finding) (known : List Bool) (s : Swept) → IsSearched c sig o vs zs known s
-    → IsHistory c sig o None (posts_of (all_findings zs s))
-searched_history c sig o vs zs known s h = posts_history c sig o None (all_findings zs s) (each_found c sig o vs zs known s h) (once_all c sig o vs zs known s h)
-
 pub searched_told : (c : Parts) (sig : List ℕ) (o : Options) (vs : List Visit) (zs : List Finding) (known : List Bool) (s : Swept) → IsSearched c sig o vs zs known s
-    → AreTold c sig o (entries_of (posts_of (all_findings zs s))) (sweep_ends (option_map sweep_block s.spent))
+    → IsSearchTold c sig o (entries_of (posts_of (all_findings zs s))) (option_map sweep_block s.spent)
 searched_told c sig o vs zs known s h = record {
-  zero = λ goal visited. settled_found c sig o vs zs known s goal h (inl ((h.marks goal).1 (subst (λ (gs : List ℕ). Contains gs goal) (sym (same_goals c vs zs h.zip)) (h.walked.whole visited.0 visited.1 goal visited.2))));
-  sweep = record {
+  visited = λ goal visited. settled_found c sig o vs zs known s goal h (inl ((h.marks goal).1 (subst (λ (gs : List ℕ). Contains gs goal) (sym (same_goals c vs zs h.zip)) (h.walked.whole visited.0 visited.1 goal visited.2))));
+  ended = record {
     settles = λ d goal e w. settled_found c sig o vs zs known s goal h (end_settles c sig o known s s.spent d goal refl h.swept h.swept.end e w);
     spent = end_spent c sig o vs zs known s s.spent h h.swept.end;
   };
-  batches = record { count = sym h.runnable.batches; each = λ b end e. absurd (none-some end e) };
-  prover = tt;
 }
 
 visited_all_below : (c : Parts) (sig : List ℕ) (steps : ℕ) (vs : List Visit) → AreZeroVisits c sig steps vs → All (λ goal. goal < 2 ^ length sig) (visited_goals vs)

@@ -1,7 +1,6 @@
 -- What the ends of the jobs leave in a report: bounds, queries, seeds and clauses.
-use Rattle.std.specs.Prelude.{◌≡◌, ◌<◌, ◌++◌, ◌∷◌, ℕ, zero, suc, Bool, true, false, List, [], length, map, get_or, set, Option, Some, None, IfSome, is_some}
+use Rattle.std.specs.Prelude.{◌≡◌, ◌<◌, ◌++◌, ◌∷◌, ℕ, zero, suc, Bool, true, false, List, [], length, map, get_or, set, Option, Some, None, is_some}
 use Rattle.std.specs.List.{enumerate_from, flat_map}
-use Rattle.lrat_text.specs.Text.{HasProofLiterals}
 use Rattle.sim_walk.specs.declared.options.Options.{Options}
 use Rattle.report_text.specs.declared.report.HopBound.{HopBound}
 use Rattle.report_text.specs.declared.report.SeedLine.{SeedLine}
@@ -29,10 +28,6 @@ prover_blocks (Whole inv spents) = spents
 
 abbrev pub all_spents : Ends → List Block
 all_spents ends = optional ends.sweep ++ hop_blocks ends.batches ++ prover_blocks ends.prover
-
--- the literals of a query's proof are in the range of their type
-abbrev pub HaveLiterals : Option Block → Type 0
-HaveLiterals spent = IfSome spent (λ (b : Block). HasProofLiterals b.proof)
 
 -- ---- bounds
 abbrev pub end_bound : Options → ℕ → BatchEnd → HopBound

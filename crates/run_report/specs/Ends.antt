@@ -74,10 +74,14 @@ pub record IsWhole (c : Parts) (sig : List ℕ) (o : Options) (es : List Entry) 
   pub rising : AllPairs (λ (a b : Block). item_of a.name < item_of b.name) spents
   pub settles : (goal : ℕ) → goal < 2 ^ length sig → Excludes c sig inv.clauses goal → HasEntry es goal ⊎ Any (λ (b : Block). item_of b.name ≡ goal) spents
 
+-- the question on which the budget was spent before the greatest invariant was found
+abbrev pub IsSpentEnd : Parts → List ℕ → Options → Block → Type 0
+IsSpentEnd c sig o b = (place : ℕ) × (clauses : List (List ℤ)) × (b.name ≡ names.Kept place clauses) × IsSpentKept c sig o place clauses b
+
 abbrev pub IsProverEnd : Parts → List ℕ → Options → List Entry → ProverEnd → Type 0
 IsProverEnd c sig o es NotRun = Unit {0}
 IsProverEnd c sig o es AllSettled = (goal : ℕ) → goal < 2 ^ length sig → HasEntry es goal
-IsProverEnd c sig o es (Spent b) = (place : ℕ) × (clauses : List (List ℤ)) × (b.name ≡ names.Kept place clauses) × IsSpentKept c sig o place clauses b
+IsProverEnd c sig o es (Spent b) = IsSpentEnd c sig o b
 IsProverEnd c sig o es (Whole inv spents) = IsWhole c sig o es inv spents
 
 -- what the run does beyond walks and searches
@@ -91,6 +95,11 @@ abbrev pub scope_of : Ends → Scope
 scope_of ends = record { proves = proves ends.prover; refutes = false }
 
 -- ---- all jobs
+-- what the walk from reset with all inputs 0 visits, and how the sweep ends, is told by these entries
+pub record IsSearchTold (c : Parts) (sig : List ℕ) (o : Options) (es : List Entry) (sweep : Option Block) : Type 0 where
+  pub visited : (goal : ℕ) → IsZeroVisited c sig o.length goal → HasEntry es goal
+  pub ended : IsSweepEnd c sig o es sweep
+
 -- what the ends say is told by these entries
 pub record AreTold (c : Parts) (sig : List ℕ) (o : Options) (es : List Entry) (ends : Ends) : Type 0 where
   pub zero : (goal : ℕ) → IsZeroVisited c sig o.length goal → HasEntry es goal

@@ -1,5 +1,5 @@
 -- The history of a run, each entry with what shows it.
-use Rattle.std.specs.Prelude.{◌≡◌, ℕ, ◌^◌, List, map, length, All, Option, Some, None, IsSome}
+use Rattle.std.specs.Prelude.{◌≡◌, ℕ, ◌<◌, ◌^◌, List, map, length, All, Option, Some, None, IsSome}
 use Rattle.std.specs.List.{enumerate_from}
 use Rattle.aig_model.specs.Replays.{Shows}
 use Rattle.aig_model.specs.declared.parts.Parts.{Parts}
@@ -10,7 +10,7 @@ use Rattle.lrat_text.specs.Text.{IsWritable}
 use Rattle.unroll.specs.Queries.{excludes_formula}
 use Rattle.sim_walk.specs.declared.options.Options.{Options}
 use Rattle.board_core.specs.declared.entry.Entry.{Entry}
-use Rattle.board_core.specs.History.{IsLegalHistory, IsInOrder, first_entry, kind_of}
+use Rattle.board_core.specs.History.{IsInRange, IsLegalHistory, IsInOrder, first_entry, kind_of}
 use Rattle.report_text.specs.declared.report.Inv.{Inv}
 use Rattle.run_report.specs.declared.posts.Basis.{Basis}
 use Rattle.run_report.specs.declared.posts.Basis.TheVariants.{Witness, Proof}
@@ -53,6 +53,14 @@ post_of number f = record {
   entry = record { number = number; caller = 0; goal = f.goal; kind = kind_of f.source; source = f.source; low = number };
   basis = f.basis;
 }
+
+-- what is known of a finding
+pub record IsFinding (c : Parts) (sig : List ℕ) (o : Options) (inv : Option Inv) (f : Finding) : Type 0 where
+  pub found : Found c sig o f.source f.goal
+  pub kind : kind_of f.source ≡ kind_of_basis f.basis
+  pub basis : IsBasis c sig inv f.goal f.basis
+  pub below : f.goal < 2 ^ length sig
+  pub range : IsInRange o f.source
 
 -- one post for each, in their order
 abbrev pub posts_of : List Finding → List Post

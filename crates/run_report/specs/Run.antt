@@ -1,5 +1,5 @@
 -- What the engines find, one after another.
-use Rattle.std.specs.Prelude.{◌≡◌, ℕ, List, [], map, Option}
+use Rattle.std.specs.Prelude.{◌≡◌, ℕ, List, map}
 use Rattle.aig_model.specs.declared.parts.Parts.{Parts}
 use Rattle.aig_model.specs.declared.trace.Trace.{Trace}
 use Rattle.board_core.specs.declared.entry.Source.TheVariants.{Zero, Sweep}
@@ -9,8 +9,6 @@ use Rattle.sim_walk.specs.declared.visit.Visit.{Visit}
 use Rattle.sim_walk.specs.Zero.{IsZeroTrace}
 use Rattle.sweep_search.specs.declared.swept.FoundGoal.{FoundGoal}
 use Rattle.sweep_search.specs.declared.swept.SpentQuery.{SpentQuery}
-use Rattle.run_report.specs.declared.ends.Ends.{Ends}
-use Rattle.run_report.specs.declared.ends.ProverEnd.TheVariants.{NotRun}
 use Rattle.run_report.specs.declared.posts.Basis.TheVariants.{Witness}
 use Rattle.run_report.specs.declared.posts.Finding.{Finding}
 
@@ -31,7 +29,3 @@ sweep_finding f = record { goal = f.goal; source = Sweep; basis = Witness f.trac
 
 abbrev pub sweep_block : SpentQuery → Block
 sweep_block q = record { name = names.Sweep q.step; blocked = q.blocked; proof = q.proof }
-
--- the ends of a run that walks from reset with all inputs 0, and sweeps
-abbrev pub sweep_ends : Option Block → Ends
-sweep_ends spent = record { sweep = spent; batches = []; prover = NotRun }

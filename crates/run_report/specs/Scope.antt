@@ -12,4 +12,4 @@ whole = record { proves = true; refutes = true }
 
 -- what runs do today
 abbrev pub today : Scope
-today = record { proves = false; refutes = false }
+today = record { proves = true; refutes = false }

@@ -6,18 +6,19 @@ ghost use Rattle.aig_model.specs.WellFormed.{IsCircuit};
 ghost use Rattle.report_text.specs.Form.{FitsOptions, HasForm};
 ghost use Rattle.run_report.specs.Ended.{all_spents, invs_from, seeds_of};
 ghost use Rattle.run_report.specs.Ends.{AreTold, inv_of, scope_of};
+ghost use Rattle.run_report.specs.Lines.{AreShort};
 ghost use Rattle.run_report.specs.Posts.{IsHistory, entries_of};
 ghost use Rattle.run_report.specs.Ranges.{AreInRange};
 ghost use Rattle.run_report.specs.Report.{Tells, is_reached, is_unreachable};
-ghost use Rattle.run_report.specs.Run.{sweep_ends};
 ghost use Rattle.run_report.specs.Summed.{Holds};
 
 use crate::blocks::{reached_among, settle, unreachable_among};
 use crate::bounds::bounds_of;
 use crate::ends::Ends;
+use crate::literals::{ends_literals_fit, posts_literals_fit};
 use crate::open_goals::open_blocks;
 use crate::posts::{Posts, entries_of};
-use crate::queries::{add_batches, add_optional, add_prover, invs_from, literals_fit};
+use crate::queries::{add_batches, add_optional, add_prover, invs_from};
 use aig_model::{Circuit, Signals};
 use board_core::Entries;
 use ketch_base::OutOfMemory;
@@ -105,13 +106,14 @@ pub fn compose(
     requires signals { signals.now.circuit ≡ circuit.now }
     requires options { AreInRange options.now }
     requires history { IsHistory circuit.now signals.now.lits options.now (inv_of ends.prover) posts }
-    requires today { ends ≡ sweep_ends ends.sweep }
     requires ends { AreTold circuit.now signals.now.lits options.now (entries_of posts) ends }
+    requires short { AreShort posts ends.prover }
     ensures history { IfOk result (λ report. report.history ≡ entries_of posts) }
     ensures form { IfOk result HasForm }
     ensures tells { IfOk result (Tells circuit.now signals.now.lits options.now (scope_of ends)) }
 {
-    literals_fit(&ends.sweep);
+    posts_literals_fit(&posts);
+    ends_literals_fit(&ends);
     let goals = signals.goals();
     let bounds = bounds_of(alloc, options, goals, &ends)?;
     let opens = open_blocks(alloc, &bounds, goals)?;

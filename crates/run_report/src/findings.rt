@@ -70,6 +70,16 @@ pub(crate) fn add_found(findings: &mut Findings, found: FoundGoals) -> Result<()
     Ok(())
 }
 
+/// Those of a later engine come last.
+pub(crate) fn add_findings(findings: &mut Findings, more: Findings) -> Result<(), OutOfMemory>
+    ensures { OnOk result (findings.new ≡ findings.old ++ more) }
+{
+    for new in more.into_vec() {
+        findings.push(new)?;
+    }
+    Ok(())
+}
+
 /// The query at which the sweep stopped, as a report tells it.
 pub(crate) fn sweep_block(spent: Option<SpentQuery>) -> Option<Block>
     ensures { result ≡ option_map sweep_block spent }

@@ -2,21 +2,12 @@
 
 ghost use Rattle.std.specs.Prelude.{◌≡◌, ◌++◌, IfOk, OnOk};
 ghost use Rattle.run_report.specs.Ends.{optional, inv_of};
-ghost use Rattle.run_report.specs.Ended.{HaveLiterals, hop_blocks, invs_from, prover_blocks, seeds_of};
+ghost use Rattle.run_report.specs.Ended.{hop_blocks, invs_from, prover_blocks, seeds_of};
 
 use crate::ends::{BatchEnds, ProverEnd};
 use ketch_base::OutOfMemory;
-use report_text::{Block, Blocks, Inv, Invs, SeedLines, proof_literals_fit};
+use report_text::{Block, Blocks, Inv, Invs, SeedLines};
 use std::alloc::Global;
-
-/// Says what the type of a query's proof keeps.
-pub(crate) fn literals_fit(spent: &Option<Block>)
-    ensures { HaveLiterals spent.now }
-{
-    if let Some(block) = spent {
-        proof_literals_fit(&block.proof);
-    }
-}
 
 pub(crate) fn add_optional(blocks: &mut Blocks, block: Option<Block>) -> Result<(), OutOfMemory>
     ensures { OnOk result (blocks.new ≡ blocks.old ++ optional block) }

@@ -1,11 +1,11 @@
-use Rattle.std.proofs.Common.{◌≡◌, ◌++◌, List, map, sym, subst, Option, None}
+use Rattle.std.proofs.Common.{◌≡◌, ◌≢◌, ◌++◌, List, map, sym, subst, All, AllPairs, Option, None}
 use Rattle.std.specs.Prelude.{option_map}
 use Rattle.report_text.specs.declared.report.Block.{Block}
 use Rattle.run_report.specs.declared.posts.Finding.{Finding}
-use Rattle.run_report.specs.Posts.{IsHistory, entries_of, posts_of}
-use Rattle.run_report.specs.Ends.{AreTold}
-use Rattle.run_report.specs.Run.{sweep_block, sweep_ends, sweep_finding}
-use Rattle.run_report.proofs.Searching.{IsSearched, searched_history, searched_told, zeros_below}
+use Rattle.run_report.specs.Posts.{IsFinding, entries_of, posts_of}
+use Rattle.run_report.specs.Ends.{IsSearchTold}
+use Rattle.run_report.specs.Run.{goals_of, sweep_block, sweep_finding}
+use Rattle.run_report.proofs.Searching.{IsSearched, each_found, once_all, searched_told, zeros_below}
 use Rattle.run_report.proofs.run.search.Goals as goal
 
 pub marks-requires : goal.marks-requires
@@ -27,13 +27,18 @@ findings_are c = cc (c.in_ok-add_found.ensures, c.in_ok-found.found-is)
 spent_is : (c : goal.After-drop-visits-inside-2) → c.sweep_block.result ≡ option_map sweep_block c.in_ok-found.field-0.spent
 spent_is c = cc (c.sweep_block.ensures, c.in_ok-found.spent-is)
 
-pub returns-clause-history : goal.returns-clause-history
-returns-clause-history c =
-    subst (λ (fs : List Finding). IsHistory c.args.circuit.now c.args.signals.now.lits c.args.options.now None (posts_of fs)) (sym (findings_are c))
-    (searched_history c.args.circuit.now c.args.signals.now.lits c.args.options.now c.in_ok-visits.visits c.in_ok-findings.findings c.in_ok-known.known c.in_ok-found.field-0 (searched c))
+pub returns-clause-found : goal.returns-clause-found
+returns-clause-found c =
+    subst (λ (fs : List Finding). All (IsFinding c.args.circuit.now c.args.signals.now.lits c.args.options.now None) fs) (sym (findings_are c))
+    (each_found c.args.circuit.now c.args.signals.now.lits c.args.options.now c.in_ok-visits.visits c.in_ok-findings.findings c.in_ok-known.known c.in_ok-found.field-0 (searched c))
+
+pub returns-clause-once : goal.returns-clause-once
+returns-clause-once c =
+    subst (λ (fs : List Finding). AllPairs (λ m n. m ≢ n) (goals_of fs)) (sym (findings_are c))
+    (once_all c.args.circuit.now c.args.signals.now.lits c.args.options.now c.in_ok-visits.visits c.in_ok-findings.findings c.in_ok-known.known c.in_ok-found.field-0 (searched c))
 
 pub returns-clause-told : goal.returns-clause-told
 returns-clause-told c =
-    subst (λ (fs : List Finding). AreTold c.args.circuit.now c.args.signals.now.lits c.args.options.now (entries_of (posts_of fs)) (sweep_ends c.sweep_block.result)) (sym (findings_are c))
-    (subst (λ (x : Option Block). AreTold c.args.circuit.now c.args.signals.now.lits c.args.options.now (entries_of (posts_of (c.in_ok-findings.findings ++ map sweep_finding c.in_ok-found.field-0.found))) (sweep_ends x)) (sym (spent_is c))
+    subst (λ (fs : List Finding). IsSearchTold c.args.circuit.now c.args.signals.now.lits c.args.options.now (entries_of (posts_of fs)) c.sweep_block.result) (sym (findings_are c))
+    (subst (λ (x : Option Block). IsSearchTold c.args.circuit.now c.args.signals.now.lits c.args.options.now (entries_of (posts_of (c.in_ok-findings.findings ++ map sweep_finding c.in_ok-found.field-0.found))) x) (sym (spent_is c))
     (searched_told c.args.circuit.now c.args.signals.now.lits c.args.options.now c.in_ok-visits.visits c.in_ok-findings.findings c.in_ok-known.known c.in_ok-found.field-0 (searched c)))
