@@ -21,7 +21,7 @@ use Rattle.cover_run.specs.Seen.{DeskSeen, SinkSeen, Took}
 use Rattle.command_words.specs.Stops.{status_of, settled_status}
 use Rattle.command_words.specs.Words.{CoverCall, Meaning, Cover}
 use Rattle.run_report.specs.Scope.{today}
-use Rattle.run_report.proofs.Laws.{settles_asked}
+use Rattle.run_report.proofs.TrueReports.{settles_asked}
 use Rattle.cover_run.proofs.Promised.{settled_either, not_ended, stopped_so}
 use Rattle.cover_run.proofs.SubjectPromised.{same_told, signals_spelled, read_accepted}
 use Rattle.cover_run.proofs.Stopped.{CoverStops, unread, too_much, not_written, memory, cover_stops}

@@ -27,12 +27,18 @@ room_stop call d c sig stops.CannotWrite has also cause = absurd cause
 room_stop call d c sig stops.OutOfMemory has also cause = absurd cause
 
 -- ---- why it can be begun
--- the frames of the sweep are at most those of the longest search
-pub search_fits : (o : Options) (c : Parts) → HasRoom o c → vars_before c (o.depth + 1) ≤ 4000000
-search_fits o c room =
+-- the frames of a search are at most those of the longest one
+search_fits : (o : Options) (c : Parts) (depth : ℕ) → depth ≤ max o.depth o.hop → HasRoom o c → vars_before c (depth + 1) ≤ 4000000
+search_fits o c depth near room =
     let fits : frames_of o c ≤ 4000000 = room.frames in
-    let less : (o.depth + 1) * (c.top + 1) ≤ (max o.depth o.hop + 1) * (c.top + 1) = mul-le (o.depth + 1) (c.top + 1) (max o.depth o.hop + 1) (c.top + 1) (omega arith) (omega arith) in
+    let less : (depth + 1) * (c.top + 1) ≤ (max o.depth o.hop + 1) * (c.top + 1) = mul-le (depth + 1) (c.top + 1) (max o.depth o.hop + 1) (c.top + 1) (omega arith) (omega arith) in
     omega arith
+
+pub sweep_fits : (o : Options) (c : Parts) → HasRoom o c → vars_before c (o.depth + 1) ≤ 4000000
+sweep_fits o c room = search_fits o c o.depth (omega arith) room
+
+pub hop_fits : (o : Options) (c : Parts) → HasRoom o c → vars_before c (o.hop + 1) ≤ 4000000
+hop_fits o c room = search_fits o c o.hop (omega arith) room
 
 pub runnable : (o : Options) → AreOnScales o → AreRunnable o
 runnable o on = record {
@@ -40,5 +46,6 @@ runnable o on = record {
   few = omega (arith, on.lemmas.1);
   depth = omega (arith, on.depth.1);
   batches = omega (arith, on.batches.1);
+  length = on.length.0;
   rounds = omega (arith, on.rounds.1);
 }

@@ -1,9 +1,12 @@
 use Rattle.std.proofs.Common.{refl}
-use Rattle.cover_run.proofs.Rooms.{search_fits, runnable}
+use Rattle.cover_run.proofs.Rooms.{hop_fits, runnable, sweep_fits}
 use Rattle.cover_run.proofs.covering.report_of.Goals as goal
 
 pub run_engines-requires-clause-room : goal.run_engines-requires-clause-room
-run_engines-requires-clause-room c = search_fits c.args.options.now c.args.circuit.now c.requires.room
+run_engines-requires-clause-room c = sweep_fits c.args.options.now c.args.circuit.now c.requires.room
+
+pub run_engines-requires-clause-hop_room : goal.run_engines-requires-clause-hop_room
+run_engines-requires-clause-hop_room c = hop_fits c.args.options.now c.args.circuit.now c.requires.room
 
 pub run_engines-requires-clause-options : goal.run_engines-requires-clause-options
 run_engines-requires-clause-options c = runnable c.args.options.now c.requires.options
