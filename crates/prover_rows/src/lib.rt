@@ -10,6 +10,8 @@ mod candidate_rows;
 #[cfg(test)]
 mod circuits;
 #[cfg(test)]
+mod evidence_rows;
+#[cfg(test)]
 mod first_steps;
 #[cfg(test)]
 mod prover_rows;
