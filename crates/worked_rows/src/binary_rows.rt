@@ -1,7 +1,7 @@
 //! What the commands answer to circuits in the binary format.
 
 use crate::setting::Setting;
-use crate::sweep_rows::BINARY_COUNTER;
+use crate::sweep_rows::{BINARY_COUNTER, after};
 use cover_run::Status;
 use std::alloc::Global;
 use std::marker::Sync;
@@ -71,10 +71,12 @@ fn covered(rt: HostRuntime) -> Result<(), Fail> {
     Ok(())
 }
 
-/// The constant output is never 1, and every input and the latch are 0 in the walk.
+/// The latch stays 0, and so does the output.
 fn wide_is_covered<R: Threads + Sync>(rt: &R, alloc: Global) -> Result<bool, Fail> {
     let outcome = Setting::cover(WIDE, b"o0\n").run(rt, alloc)?;
-    Ok(outcome.status == Status::Open && outcome.out.as_slice().ends_with(b"end 1 0 1\n"))
+    let out = outcome.out.as_slice();
+    let clause = after(out, b"\ninvs 1\ninv 1\n").starts_with(b"-1 0\nproof 1\n");
+    Ok(outcome.status == Status::Settled && clause && out.ends_with(b"end 1 1 0\n"))
 }
 
 /// The goal circuit of a binary file is printed as ASCII.

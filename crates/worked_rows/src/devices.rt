@@ -1,6 +1,5 @@
 //! What a run answers where a device fails at one of its calls.
 
-use crate::rows::RING_REPORT;
 use crate::setting::Setting;
 use cover_run::Status;
 use std::alloc::Global;
@@ -12,6 +11,10 @@ const RING: &[u8] = b"aag 2 0 2 0 0\n2 4 1\n4 2\n";
 
 const SIGNALS: &[u8] = b"l0\nl1\n";
 
+/// No clause over one latch is kept, so two goals stay open.
+const RING_REPORT: &[u8] =
+    b"ketch 1\nsize 0 2 2\noptions 10 0 1000 100 4 1 20000 1 0 0\nhistory 2\n0 0 1 r zero 0\n1 0 2 r zero 1\nseeds 0\ninvs 0\ngoals 4\ngoal 0 open depth 10 hops strength 1\ngoal 1 reached 0\n1\nb1\n10\n\n.\ngoal 2 reached 1\n1\nb2\n10\n\n\n.\ngoal 3 open depth 10 hops strength 1\nspents 0\nrefutes 0\nend 2 0 2\n";
+
 const FORMULA: &[u8] = b"p cnf 1 2\n1 0\n-1 0\n";
 
 const PROOF: &[u8] = b"3 0 1 2 0\n";
@@ -19,7 +22,19 @@ const PROOF: &[u8] = b"3 0 1 2 0\n";
 const ACCEPTED: &[u8] = b"accepted\n";
 
 fn cover() -> Setting<'static> {
-    Setting::cover(RING, SIGNALS)
+    Setting::new(
+        &[
+            b"cover",
+            b"a",
+            b"b",
+            b"--strength",
+            b"1",
+            b"--batches",
+            b"0",
+        ],
+        RING,
+        SIGNALS,
+    )
 }
 
 fn lrat() -> Setting<'static> {

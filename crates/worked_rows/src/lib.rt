@@ -14,6 +14,8 @@ mod goals_rows;
 #[cfg(test)]
 mod lrat_rows;
 #[cfg(test)]
+mod proved_rows;
+#[cfg(test)]
 mod replay_rows;
 #[cfg(test)]
 mod rows;
@@ -21,5 +23,9 @@ mod rows;
 mod spent_rows;
 #[cfg(test)]
 mod sweep_rows;
+#[cfg(test)]
+mod verdict_rows;
+#[cfg(test)]
+mod walk_rows;
 #[cfg(test)]
 mod words;

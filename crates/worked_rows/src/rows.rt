@@ -9,24 +9,16 @@ use std::thread::Threads;
 
 const TOGGLE: &[u8] = b"aag 1 0 1 2 0\n2 3\n2\n3\n";
 
-const RING: &[u8] = b"aag 2 0 2 0 0\n2 4 1\n4 2\n";
-
 const TOGGLE_REPORT: &[u8] =
-    b"ketch 1\nsize 0 1 1\noptions 10 0 1000 100 4 1 20000 0 0 0\nhistory 2\n0 0 0 r zero 0\n1 0 1 r zero 1\nseeds 0\ninvs 0\ngoals 2\ngoal 0 reached 0\n1\nb0\n0\n\n.\ngoal 1 reached 1\n1\nb1\n0\n\n\n.\nspents 0\nrefutes 0\nend 2 0 0\n";
-
-pub(crate) const RING_REPORT: &[u8] =
-    b"ketch 1\nsize 0 2 2\noptions 10 0 1000 100 4 1 20000 0 0 0\nhistory 2\n0 0 1 r zero 0\n1 0 2 r zero 1\nseeds 0\ninvs 0\ngoals 4\ngoal 0 open depth 10 hops strength none\ngoal 1 reached 0\n1\nb1\n10\n\n.\ngoal 2 reached 1\n1\nb2\n10\n\n\n.\ngoal 3 open depth 10 hops strength none\nspents 0\nrefutes 0\nend 2 0 2\n";
+    b"ketch 1\nsize 0 1 1\noptions 10 0 1000 100 4 1 20000 2 0 0\nhistory 2\n0 0 0 r zero 0\n1 0 1 r zero 1\nseeds 0\ninvs 0\ngoals 2\ngoal 0 reached 0\n1\nb0\n0\n\n.\ngoal 1 reached 1\n1\nb1\n0\n\n\n.\nspents 0\nrefutes 0\nend 2 0 0\n";
 
 /// The free latch starts at 0 in the zero walk, and the sweep finds its other value.
 const FREE_REPORT: &[u8] =
-    b"ketch 1\nsize 0 1 1\noptions 10 0 1000 100 4 1 20000 0 0 0\nhistory 2\n0 0 0 r zero 0\n1 0 1 r sweep 1\nseeds 0\ninvs 0\ngoals 2\ngoal 0 reached 0\n1\nb0\n0\n\n.\ngoal 1 reached 1\n1\nb1\n1\n\n.\nspents 0\nrefutes 0\nend 2 0 0\n";
+    b"ketch 1\nsize 0 1 1\noptions 10 0 1000 100 4 1 20000 2 0 0\nhistory 2\n0 0 0 r zero 0\n1 0 1 r sweep 1\nseeds 0\ninvs 0\ngoals 2\ngoal 0 reached 0\n1\nb0\n0\n\n.\ngoal 1 reached 1\n1\nb1\n1\n\n.\nspents 0\nrefutes 0\nend 2 0 0\n";
 
 /// The signal is the negated latch, so the walk begins with goal 1.
 const NEGATED_REPORT: &[u8] =
-    b"ketch 1\nsize 0 1 1\noptions 10 0 1000 100 4 1 20000 0 0 0\nhistory 2\n0 0 1 r zero 0\n1 0 0 r zero 1\nseeds 0\ninvs 0\ngoals 2\ngoal 0 reached 1\n1\nb0\n0\n\n\n.\ngoal 1 reached 0\n1\nb1\n0\n\n.\nspents 0\nrefutes 0\nend 2 0 0\n";
-
-const NOTHING_REPORT: &[u8] =
-    b"ketch 1\nsize 0 2 2\noptions 10 0 1000 100 4 1 20000 0 0 0\nhistory 0\nseeds 0\ninvs 0\ngoals 4\ngoal 0 open depth 10 hops strength none\ngoal 1 open depth 10 hops strength none\ngoal 2 open depth 10 hops strength none\ngoal 3 open depth 10 hops strength none\nspents 0\nrefutes 0\nend 0 0 4\n";
+    b"ketch 1\nsize 0 1 1\noptions 10 0 1000 100 4 1 20000 2 0 0\nhistory 2\n0 0 1 r zero 0\n1 0 0 r zero 1\nseeds 0\ninvs 0\ngoals 2\ngoal 0 reached 1\n1\nb0\n0\n\n\n.\ngoal 1 reached 0\n1\nb1\n0\n\n.\nspents 0\nrefutes 0\nend 2 0 0\n";
 
 /// What the row is about, the circuit, the signals, the status, and the report.
 type ReportRow = (
@@ -52,20 +44,12 @@ const REPORTS: &[ReportRow] = &[
         Status::Settled,
         NEGATED_REPORT,
     ),
-    ("the ring", RING, b"l0\nl1\n", Status::Open, RING_REPORT),
     (
         "a free reset",
         b"aag 1 0 1 0 0\n2 2 2\n",
         b"l0\n",
         Status::Settled,
         FREE_REPORT,
-    ),
-    (
-        "a constraint that is false at reset",
-        b"aag 2 0 2 0 0 0 1\n2 4 1\n4 2\n4\n",
-        b"l0\nl1\n",
-        Status::Open,
-        NOTHING_REPORT,
     ),
 ];
 

@@ -65,8 +65,13 @@ impl<'a> Setting<'a> {
         }
     }
 
+    /// Without random walks, whose seeds would fill the report.
     pub fn cover(circuit: &'a [u8], signals: &'a [u8]) -> Setting<'a> {
-        Setting::new(&[b"cover", b"a", b"b"], circuit, signals)
+        Setting::new(
+            &[b"cover", b"a", b"b", b"--batches", b"0"],
+            circuit,
+            signals,
+        )
     }
 
     pub fn goals(circuit: &'a [u8], signals: &'a [u8]) -> Setting<'a> {

@@ -17,23 +17,14 @@ pub(crate) const PARITIES: &[u8] =
     b"aag 18 3 0 1 15\n2\n4\n6\n36\n8 2 4\n10 3 5\n12 9 11\n14 12 6\n16 13 7\n18 15 17\n\
     20 4 6\n22 5 7\n24 21 23\n26 24 2\n28 25 3\n30 27 29\n32 18 30\n34 19 31\n36 33 35\n";
 
-/// A latch starts at 0 and takes what the same gates say, so no search is hard before step 1.
-const LATE_PARITIES: &[u8] =
-    b"aag 19 3 1 0 15\n2\n4\n6\n38 36\n8 2 4\n10 3 5\n12 9 11\n14 12 6\n16 13 7\n18 15 17\n\
-    20 4 6\n22 5 7\n24 21 23\n26 24 2\n28 25 3\n30 27 29\n32 18 30\n34 19 31\n36 33 35\n";
-
 const BELOW: &[u8] =
-    b"ketch 1\nsize 0 3 1\noptions 2 0 1 100 4 1 20000 0 0 0\nhistory 1\n0 0 0 r zero 0\nseeds 0\ninvs 0\ngoals 2\n\
-    goal 0 reached 0\n1\nb0\n000\n\n.\ngoal 1 open depth 2 hops strength none\nspents 0\nrefutes 0\nend 1 0 1\n";
+    b"ketch 1\nsize 0 3 1\noptions 2 0 1 100 4 1 20000 2 0 0\nhistory 1\n0 0 0 r zero 0\nseeds 0\ninvs 0\ngoals 2\n\
+    goal 0 reached 0\n1\nb0\n000\n\n.\ngoal 1 open depth 2 hops strength 2\nspents 0\nrefutes 0\nend 1 0 1\n";
 
 const AT: &[u8] =
-    b"ketch 1\nsize 0 3 1\noptions 3 0 1 100 4 1 20000 0 0 0\nhistory 2\n0 0 0 r zero 0\n1 0 1 r sweep 1\n\
+    b"ketch 1\nsize 0 3 1\noptions 3 0 1 100 4 1 20000 2 0 0\nhistory 2\n0 0 0 r zero 0\n1 0 1 r sweep 1\n\
     seeds 0\ninvs 0\ngoals 2\ngoal 0 reached 0\n1\nb0\n000\n\n.\ngoal 1 reached 1\n1\nb1\n000\n\n\n\n\n.\n\
     spents 0\nrefutes 0\nend 2 0 0\n";
-
-const UNSPENT: &[u8] =
-    b"ketch 1\nsize 3 0 1\noptions 10 0 1000 100 4 1 20000 0 0 0\nhistory 1\n0 0 0 r zero 0\nseeds 0\ninvs 0\ngoals 2\n\
-    goal 0 reached 0\n1\nb0\n\n000\n.\ngoal 1 open depth 10 hops strength none\nspents 0\nrefutes 0\nend 1 0 1\n";
 
 /// Reports of which the search chooses nothing.
 struct WholeRow {
@@ -45,10 +36,20 @@ struct WholeRow {
     report: &'static [u8],
 }
 
-const WHOLE: [WholeRow; 3] = [
+const WHOLE: [WholeRow; 2] = [
     WholeRow {
         about: "one step below the depth at which the goal is",
-        words: &[b"cover", b"a", b"b", b"--depth", b"2", b"--length", b"1"],
+        words: &[
+            b"cover",
+            b"a",
+            b"b",
+            b"--depth",
+            b"2",
+            b"--length",
+            b"1",
+            b"--batches",
+            b"0",
+        ],
         circuit: CHAIN,
         signals: b"l2",
         status: Status::Open,
@@ -56,19 +57,21 @@ const WHOLE: [WholeRow; 3] = [
     },
     WholeRow {
         about: "at that depth",
-        words: &[b"cover", b"a", b"b", b"--depth", b"3", b"--length", b"1"],
+        words: &[
+            b"cover",
+            b"a",
+            b"b",
+            b"--depth",
+            b"3",
+            b"--length",
+            b"1",
+            b"--batches",
+            b"0",
+        ],
         circuit: CHAIN,
         signals: b"l2",
         status: Status::Settled,
         report: AT,
-    },
-    WholeRow {
-        about: "a goal that is nowhere",
-        words: &[b"cover", b"a", b"b"],
-        circuit: PARITIES,
-        signals: b"o0",
-        status: Status::Open,
-        report: UNSPENT,
     },
 ];
 
@@ -85,54 +88,10 @@ fn whole_reports(rt: HostRuntime) -> Result<(), Fail> {
     Ok(())
 }
 
-/// Reports whose proof the solver chooses: what stands before it and after it.
-struct SpentRow {
-    circuit: &'static [u8],
-    signals: &'static [u8],
-    front: &'static [u8],
-}
-
-const SPENT: [SpentRow; 2] = [
-    SpentRow {
-        circuit: PARITIES,
-        signals: b"o0",
-        front: b"ketch 1\nsize 3 0 1\noptions 10 0 1000 100 4 1 1 0 0 0\nhistory 1\n0 0 0 r zero 0\nseeds 0\ninvs 0\n\
-            goals 2\ngoal 0 reached 0\n1\nb0\n\n000\n.\ngoal 1 open depth none hops strength none\n\
-            spents 1\nspent sweep 0\nblocked 1 0\nproof 1\n",
-    },
-    // step 0 is searched whole
-    SpentRow {
-        circuit: LATE_PARITIES,
-        signals: b"l0",
-        front: b"ketch 1\nsize 3 1 1\noptions 10 0 1000 100 4 1 1 0 0 0\nhistory 1\n0 0 0 r zero 0\nseeds 0\ninvs 0\n\
-            goals 2\ngoal 0 reached 0\n1\nb0\n0\n000\n.\ngoal 1 open depth 0 hops strength none\n\
-            spents 1\nspent sweep 1\nblocked 1 0\nproof 1\n",
-    },
-];
-
 /// Whether a report has this status and stands between these bytes.
 fn stands(outcome: &Outcome, status: Status, front: &[u8], end: &[u8]) -> bool {
     let out = outcome.out.as_slice();
     outcome.status == status && out.starts_with(front) && out.ends_with(end)
-}
-
-fn is_spent<R: Threads + Sync>(rt: &R, alloc: Global, row: &SpentRow) -> Result<bool, Fail> {
-    let words: [&[u8]; 5] = [b"cover", b"a", b"b", b"--lemmas", b"1"];
-    let outcome = Setting::new(&words, row.circuit, row.signals).run(rt, alloc)?;
-    Ok(stands(
-        &outcome,
-        Status::Open,
-        row.front,
-        b"\nrefutes 0\nend 1 0 1\n",
-    ))
-}
-
-#[test]
-fn spent_budgets(rt: HostRuntime) -> Result<(), Fail> {
-    for (place, row) in SPENT.iter().enumerate() {
-        assert!(rt; is_spent(&rt, rt.alloc(), row)?, "row {place}");
-    }
-    Ok(())
 }
 
 /// A counter of one bit with enable and reset, in the two formats.
@@ -144,7 +103,7 @@ pub(crate) const BINARY_COUNTER: &[u8] =
 
 /// The walk leaves enable at 0. The search finds it at 1 in the first step, and the bit at 1 in the second.
 const COUNTED: &[u8] =
-    b"ketch 1\nsize 2 1 2\noptions 10 0 1000 100 4 1 20000 0 0 0\nhistory 4\n0 0 0 r zero 0\n1 0 2 r sweep 1\n2 0 ";
+    b"ketch 1\nsize 2 1 2\noptions 10 0 1000 100 4 1 20000 2 0 0\nhistory 4\n0 0 0 r zero 0\n1 0 2 r sweep 1\n2 0 ";
 
 /// A goal's line in the report, and what the replay of its witness says.
 const REPLAYED: [(&[u8], &[u8]); 4] = [

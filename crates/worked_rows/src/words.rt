@@ -42,7 +42,7 @@ const NO_COMMANDS: &[Words] = &[
 /// Invalid options.
 const NO_OPTIONS: &[Words] = &[
     &[b"cover", b"a", b"b", b"--depth", b"201"],
-    &[b"cover", b"a", b"b", b"--batches", b"1"],
+    &[b"cover", b"a", b"b", b"--batches", b"17"],
     &[b"cover", b"a", b"b", b"--length", b"0"],
     &[b"cover", b"a", b"b", b"--length", b"100001"],
     &[b"cover", b"a", b"b", b"--stall", b"0"],
@@ -58,7 +58,7 @@ const NO_OPTIONS: &[Words] = &[
     &[b"cover", b"a", b"b", b"--seed", b" 1"],
     &[b"cover", b"a", b"b", b"--lemmas", b"0"],
     &[b"cover", b"a", b"b", b"--lemmas", b"1000001"],
-    &[b"cover", b"a", b"b", b"--strength", b"1"],
+    &[b"cover", b"a", b"b", b"--strength", b"3"],
     &[b"cover", b"a", b"b", b"--rounds", b"1"],
     &[b"cover", b"a", b"b", b"--workers", b"0"],
     &[b"cover", b"a", b"b", b"--workers", b"9"],
@@ -98,64 +98,79 @@ fn refused_options(rt: HostRuntime) -> Result<(), Fail> {
 
 /// An option that is accepted, its number, and the report's line of options.
 const OPTIONS: &[(&[u8], &[u8], &[u8])] = &[
-    (b"--depth", b"0", b"options 0 0 1000 100 4 1 20000 0 0 0\n"),
+    (b"--depth", b"0", b"options 0 2 1000 100 4 1 20000 2 0 0\n"),
     (
         b"--depth",
         b"200",
-        b"options 200 0 1000 100 4 1 20000 0 0 0\n",
+        b"options 200 2 1000 100 4 1 20000 2 0 0\n",
     ),
     (
         b"--batches",
         b"0",
-        b"options 10 0 1000 100 4 1 20000 0 0 0\n",
+        b"options 10 0 1000 100 4 1 20000 2 0 0\n",
     ),
-    (b"--length", b"2", b"options 10 0 2 100 4 1 20000 0 0 0\n"),
+    (
+        b"--batches",
+        b"16",
+        b"options 10 16 1000 100 4 1 20000 2 0 0\n",
+    ),
+    (b"--length", b"2", b"options 10 2 2 100 4 1 20000 2 0 0\n"),
     (
         b"--length",
         b"100000",
-        b"options 10 0 100000 100 4 1 20000 0 0 0\n",
+        b"options 10 2 100000 100 4 1 20000 2 0 0\n",
     ),
-    (b"--stall", b"1", b"options 10 0 1000 1 4 1 20000 0 0 0\n"),
+    (b"--stall", b"1", b"options 10 2 1000 1 4 1 20000 2 0 0\n"),
     (
         b"--stall",
         b"100000",
-        b"options 10 0 1000 100000 4 1 20000 0 0 0\n",
+        b"options 10 2 1000 100000 4 1 20000 2 0 0\n",
     ),
-    (b"--hop", b"0", b"options 10 0 1000 100 0 1 20000 0 0 0\n"),
-    (b"--hop", b"50", b"options 10 0 1000 100 50 1 20000 0 0 0\n"),
-    (b"--seed", b"0", b"options 10 0 1000 100 4 0 20000 0 0 0\n"),
+    (b"--hop", b"0", b"options 10 2 1000 100 0 1 20000 2 0 0\n"),
+    (b"--hop", b"50", b"options 10 2 1000 100 50 1 20000 2 0 0\n"),
+    (b"--seed", b"0", b"options 10 2 1000 100 4 0 20000 2 0 0\n"),
     (
         b"--seed",
         b"18446744073709551615",
-        b"options 10 0 1000 100 4 18446744073709551615 20000 0 0 0\n",
+        b"options 10 2 1000 100 4 18446744073709551615 20000 2 0 0\n",
     ),
-    (b"--lemmas", b"1", b"options 10 0 1000 100 4 1 1 0 0 0\n"),
+    (b"--lemmas", b"1", b"options 10 2 1000 100 4 1 1 2 0 0\n"),
     (
         b"--lemmas",
         b"1000000",
-        b"options 10 0 1000 100 4 1 1000000 0 0 0\n",
+        b"options 10 2 1000 100 4 1 1000000 2 0 0\n",
     ),
     (
         b"--strength",
         b"0",
-        b"options 10 0 1000 100 4 1 20000 0 0 0\n",
+        b"options 10 2 1000 100 4 1 20000 0 0 0\n",
+    ),
+    (
+        b"--strength",
+        b"1",
+        b"options 10 2 1000 100 4 1 20000 1 0 0\n",
+    ),
+    (
+        b"--strength",
+        b"2",
+        b"options 10 2 1000 100 4 1 20000 2 0 0\n",
     ),
     (
         b"--rounds",
         b"0",
-        b"options 10 0 1000 100 4 1 20000 0 0 0\n",
+        b"options 10 2 1000 100 4 1 20000 2 0 0\n",
     ),
     (
         b"--workers",
         b"1",
-        b"options 10 0 1000 100 4 1 20000 0 0 0\n",
+        b"options 10 2 1000 100 4 1 20000 2 0 0\n",
     ),
     (
         b"--workers",
         b"8",
-        b"options 10 0 1000 100 4 1 20000 0 0 0\n",
+        b"options 10 2 1000 100 4 1 20000 2 0 0\n",
     ),
-    (b"--hop", b"4", b"options 10 0 1000 100 4 1 20000 0 0 0\n"),
+    (b"--hop", b"4", b"options 10 2 1000 100 4 1 20000 2 0 0\n"),
 ];
 
 /// Whether a run over the toggle has this status, and these bytes at the front and at the end of its output.
@@ -204,7 +219,7 @@ const ALL_OPTIONS: Words = &[
     b"--rounds",
     b"0",
     b"--strength",
-    b"0",
+    b"1",
     b"--lemmas",
     b"7",
     b"--seed",
@@ -216,14 +231,14 @@ const ALL_OPTIONS: Words = &[
     b"--length",
     b"3",
     b"--batches",
-    b"0",
+    b"8",
     b"--depth",
     b"9",
 ];
 
 #[test]
 fn all_options(rt: HostRuntime) -> Result<(), Fail> {
-    let head = b"ketch 1\nsize 0 1 1\noptions 9 0 3 4 5 6 7 0 0 0\n";
+    let head = b"ketch 1\nsize 0 1 1\noptions 9 8 3 4 5 6 7 1 0 0\n";
     assert!(rt; shows(&rt, rt.alloc(), ALL_OPTIONS, Status::Settled, head, b"")?);
     Ok(())
 }
