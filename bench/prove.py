@@ -3,11 +3,11 @@
 
 The program is crates/engine_bench/out/engine_bench, as `rt ci` or `rt run` leaves it. The circuits are made by yosys
 from bench/verilog. The prover looks for the greatest invariant among the candidates of strength 2. Its last round asks
-of each clause that stays whether it is kept; earlier rounds ask more. Some questions of the last round go to `minisat`.
-What it takes for the same clauses with an empty one behind them, which it only parses, is taken away. The prover's
-whole time, shared among the questions of the last round alone, is divided by the mean of minisat's. A peer that is
-missing is skipped. Each program runs several times, in turn with the others; of each stands the least of its user
-seconds.
+of each clause that stays whether it is kept; earlier rounds ask more. callgrind counts all its questions: the calls of
+the solver. Some questions of the last round go to `minisat`. What it takes for the same clauses with an empty one
+behind them, which it only parses, is taken away. The prover's whole time, shared among its questions, is divided by the
+mean of minisat's. A peer that is missing is skipped. Each program runs several times, in turn with the others; of each
+stands the least of its user seconds.
 
     prove.py [--sample QUESTIONS] [--only WORD] [--runs RUNS]
 """
@@ -19,6 +19,8 @@ import tempfile
 
 from engines import BENCH, LEMMAS, SIGNALS, Run, circuit, least, need
 
+SOLVE = "sat_solver::solver::solve"
+
 
 def question(folder, path, signals, place):
     """The path of the formula that asks whether the clause at the place is kept, and of the one that is only parsed."""
@@ -28,6 +30,22 @@ def question(folder, path, signals, place):
         with open(path_of, "wb") as file:
             file.write(text + behind)
     return name, parsed
+
+
+def calls_of_solver(folder, words):
+    """How often the program called the solver, or None without callgrind."""
+    if shutil.which("valgrind") is None:
+        return None
+    counts = os.path.join(folder, "calls")
+    Run(["valgrind", "--tool=callgrind", "--compress-strings=no", f"--callgrind-out-file={counts}"] + words, folder, 600)
+    calls, is_solver = 0, False
+    with open(counts, errors="replace") as file:
+        for line in file:
+            if line.startswith("cfn="):
+                is_solver = line.strip() == f"cfn={SOLVE}"
+            elif line.startswith("calls=") and is_solver:
+                calls += int(line[len("calls="):].split()[0])
+    return calls
 
 
 def questions(folder, path, signals, clauses, sample):
@@ -53,9 +71,12 @@ def measure(folder, name, sample, runs):
     if asked:
         took = [least(theirs[formula]).seconds - least(theirs[parsed]).seconds for formula, parsed in asked]
         mean = sum(took) / len(took)
-        print(f"  minisat: {mean * 1000:.1f} ms a question of {len(asked)}; the prover: "
-              f"{prove.seconds * 1000 / clauses:.1f} ms for each of {clauses}, {prove.seconds / clauses / mean:.1f} "
-              f"times as long")
+        line = f"  minisat: {mean * 1000:.2f} ms a question of {len(asked)}"
+        calls = calls_of_solver(folder, words)
+        if calls:
+            line += f"; the prover: {prove.seconds * 1000 / calls:.2f} ms for each of {calls}"
+            line += f", {prove.seconds / calls / mean:.2f} times as long" if mean > 0 else ""
+        print(line)
 
 
 def main():
