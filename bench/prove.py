@@ -1,13 +1,16 @@
 #!/usr/bin/env python3
-"""Time and memory of the prover, beside minisat on its questions.
+"""Time and memory of the prover, and its instructions beside those of minisat on its questions.
 
 The program is crates/engine_bench/out/engine_bench, as `rt ci` or `rt run` leaves it. The circuits are made by yosys
 from bench/verilog. The prover looks for the greatest invariant among the candidates of strength 2. Its last round asks
-of each clause that stays whether it is kept; earlier rounds ask more. callgrind counts all its questions: the calls of
-the solver. Some questions of the last round go to `minisat`. What it takes for the same clauses with an empty one
-behind them, which it only parses, is taken away. The prover's whole time, shared among its questions, is divided by the
-mean of minisat's. A peer that is missing is skipped. Each program runs several times, in turn with the others; of each
-stands the least of its user seconds.
+of each clause that stays whether it is kept; earlier rounds ask more. Of several runs stands the one of the least user
+seconds.
+
+callgrind counts instructions, and all questions of the prover: the calls of the solver. Some questions of the last
+round go to `minisat`. What it takes for the same clauses with an empty one behind them, which it only reads, is taken
+away. It propagates while it reads: a question that this decides leaves nothing to compare. The prover's whole count,
+shared among its questions, is divided by the mean of minisat's on those that are left. A peer that is missing is
+skipped.
 
     prove.py [--sample QUESTIONS] [--only WORD] [--runs RUNS]
 """
@@ -32,20 +35,25 @@ def question(folder, path, signals, place):
     return name, parsed
 
 
-def calls_of_solver(folder, words):
-    """How often the program called the solver, or None without callgrind."""
-    if shutil.which("valgrind") is None:
-        return None
-    counts = os.path.join(folder, "calls")
+def count(folder, words):
+    """A run's instructions, and how often it called the solver."""
+    counts = os.path.join(folder, "counts")
     Run(["valgrind", "--tool=callgrind", "--compress-strings=no", f"--callgrind-out-file={counts}"] + words, folder, 600)
-    calls, is_solver = 0, False
+    instructions, calls, is_solver = 0, 0, False
     with open(counts, errors="replace") as file:
         for line in file:
             if line.startswith("cfn="):
                 is_solver = line.strip() == f"cfn={SOLVE}"
             elif line.startswith("calls=") and is_solver:
                 calls += int(line[len("calls="):].split()[0])
-    return calls
+            elif line.startswith(("summary:", "totals:")):
+                instructions = int(line.split()[1])
+    return instructions, calls
+
+
+def decided(folder, formula, parsed):
+    """minisat's instructions on the formula, without those that reading it takes."""
+    return count(folder, ["minisat", "-verb=0", formula])[0] - count(folder, ["minisat", "-verb=0", parsed])[0]
 
 
 def questions(folder, path, signals, clauses, sample):
@@ -60,22 +68,21 @@ def measure(folder, name, sample, runs):
     first = Run(words, folder, 600)
     found = re.match(r"whole clauses=(\d+)", first.err)
     clauses = int(found.group(1)) if found else 0
-    asked = questions(folder, path, signals, clauses, sample)
-    ours, theirs = [first], {formula: [] for pair in asked for formula in pair}
-    for _ in range(runs):
-        ours.append(Run(words, folder, 600))
-        for formula, taken in theirs.items():
-            taken.append(Run(["minisat", "-verb=0", formula], folder, 600))
-    prove = least(ours)
+    prove = least([first] + [Run(words, folder, 600) for _ in range(runs)])
     print(f"{name}: {gates} gates: {prove.err}, {prove.seconds:.2f} s, {prove.megabytes:.0f} MB")
+    if shutil.which("valgrind") is None:
+        return
+    instructions, calls = count(folder, words)
+    each = instructions / max(calls, 1)
+    print(f"  the prover: {each / 1e6:.2f} million instructions for each of {calls} questions")
+    asked = questions(folder, path, signals, clauses, sample)
+    took = [decided(folder, formula, parsed) for formula, parsed in asked]
+    left = [taken for taken in took if taken > 0]
     if asked:
-        took = [least(theirs[formula]).seconds - least(theirs[parsed]).seconds for formula, parsed in asked]
-        mean = sum(took) / len(took)
-        line = f"  minisat: {mean * 1000:.2f} ms a question of {len(asked)}"
-        calls = calls_of_solver(folder, words)
-        if calls:
-            line += f"; the prover: {prove.seconds * 1000 / calls:.2f} ms for each of {calls}"
-            line += f", {prove.seconds / calls / mean:.2f} times as long" if mean > 0 else ""
+        line = f"  minisat: {len(took) - len(left)} of {len(took)} questions are decided while it reads"
+        if left:
+            mean = sum(left) / len(left)
+            line += f"; {mean / 1e6:.2f} million for each of the others, {each / mean:.2f} times as many by the prover"
         print(line)
 
 
