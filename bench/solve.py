@@ -4,22 +4,23 @@
 The program is crates/solve_dimacs/out/solve_dimacs, as `rt ci` or `rt run` leaves it. `cadical --plain` and
 `minisat -no-pre`, both without preprocessing, run where they are on PATH; a peer that is missing is skipped. Each
 formula is a circuit of AND gates over time frames: counters, timers, arbiters, multipliers, and random gates. Ketch's
-lemmas are its conflicts, and the literals of level 0 that became lemmas; for a satisfiable formula they are found by
-runs with smaller budgets, where these are short.
+conflicts are those that it learned from; the literals of level 0 that became lemmas cost none. Times are user seconds.
 
-    solve.py [--timeout SECONDS] [--only WORD] [--most CLAUSES] [--folds] [--check] [--keep FOLDER]
+    solve.py [--shuffles COUNT] [--timeout SECONDS] [--only WORD] [--most CLAUSES] [--folds] [--check] [--keep FOLDER]
 
+How soon a model is met is luck, and one formula tells little of it. `--shuffles` solves each formula so many times, with
+its variables renamed and its clauses and their literals in other orders, by seeds 1, 2 and so on, and prints totals.
 `--check` has `ketch lrat` check each proof of unsatisfiability; `--keep` leaves the formulas in a folder.
 """
 import argparse
 import os
 import random
 import re
+import resource
 import shutil
 import subprocess
 import sys
 import tempfile
-import time
 
 TOP = os.path.dirname(os.path.dirname(os.path.abspath(__file__)))
 PROGRAM = os.path.join(TOP, "crates", "solve_dimacs", "out", "solve_dimacs")
@@ -101,6 +102,16 @@ class Circuit:
         for lit, value in zip(state, values):
             self.want(lit if value else -lit)
         return state
+
+    def shuffled(self, seed):
+        """The same formula under other names and in another order."""
+        chosen, other = random.Random(seed), Circuit()
+        names = list(range(1, self.variables + 1))
+        chosen.shuffle(names)
+        renamed = [[names[lit - 1] if lit > 0 else -names[-lit - 1] for lit in lits] for lits in self.clauses]
+        other.variables, other.clauses = self.variables, [chosen.sample(lits, len(lits)) for lits in renamed]
+        chosen.shuffle(other.clauses)
+        return other
 
     def write(self, path):
         with open(path, "w") as file:
@@ -290,31 +301,55 @@ def chain(count, last):
         yield f"-{count} 0\n"
 
 
+def spent():
+    """The user seconds of all programs that were run."""
+    return resource.getrusage(resource.RUSAGE_CHILDREN).ru_utime
+
+
 def run(words, timeout, output=None):
-    """Seconds, status (None after the timeout), and what was written to standard output and error, together."""
+    """User seconds, status (None after so many seconds), and what was written to standard output and error, together."""
+    limit = resource.RLIM_INFINITY if timeout is None else timeout
     with tempfile.TemporaryFile() as said:
-        started = time.monotonic()
-        process = subprocess.Popen(words, stdout=output or said, stderr=said)
-        try:
-            status = process.wait(timeout)
-        except subprocess.TimeoutExpired:
-            process.kill()
-            process.wait()
-            status = None
-        seconds = time.monotonic() - started
+        before = spent()
+        bounded = {"preexec_fn": lambda: resource.setrlimit(resource.RLIMIT_CPU, (limit, limit))}
+        status = subprocess.run(words, stdout=output or said, stderr=said, **bounded).returncode
+        seconds = spent() - before
         said.seek(0)
-        return seconds, status, said.read().decode()
+        is_late = status not in ANSWERS and timeout is not None and seconds > 0.9 * timeout
+        return seconds, None if is_late else status, said.read().decode()
 
 
 class Outcome:
-    """How a solver ended; `conflicts` and `hints` are None where they aren't known."""
+    """How a solver ended; what isn't known is None."""
 
-    def __init__(self, seconds, status, conflicts, hints=None):
-        self.seconds, self.answer = seconds, ANSWERS.get(status, "late" if status is None else f"status {status}")
-        self.conflicts, self.hints = conflicts, hints
+    def __init__(self, seconds, answer, conflicts=None, lemmas=None, hints=None):
+        self.seconds, self.answer, self.conflicts, self.lemmas, self.hints = seconds, answer, conflicts, lemmas, hints
+
+    def ended(self):
+        return self.answer in ("sat", "unsat")
 
     def rate(self):
         return self.conflicts / self.seconds if self.conflicts and self.seconds else None
+
+
+def known_sum(numbers):
+    return None if None in numbers else sum(numbers)
+
+
+def total(outcomes):
+    """Of several formulas as one, which ended where each did."""
+    late = [one.answer for one in outcomes if not one.ended()]
+    return Outcome(
+        sum(one.seconds for one in outcomes),
+        late[0] if late else outcomes[0].answer,
+        known_sum([one.conflicts for one in outcomes]),
+        known_sum([one.lemmas for one in outcomes]),
+        known_sum([one.hints for one in outcomes]),
+    )
+
+
+def answer_of(status):
+    return ANSWERS.get(status, "late" if status is None else f"status {status}")
 
 
 def number_in(pattern, text):
@@ -322,17 +357,18 @@ def number_in(pattern, text):
     return int(found.group(1)) if found else None
 
 
-def ketch(formula, proof, timeout, budget=BUDGET):
+def ketch(formula, proof, timeout):
     with open(proof, "wb") as output:
-        seconds, status, said = run([PROGRAM, formula, str(budget)], timeout, output)
-    return Outcome(seconds, status, number_in(r"lemmas=(\d+)", said), number_in(r"hints=(\d+)", said))
+        seconds, status, said = run([PROGRAM, formula, str(BUDGET)], timeout, output)
+    numbers = [number_in(name + r"=(\d+)", said) for name in ("conflicts", "lemmas", "hints")]
+    return Outcome(seconds, answer_of(status), *numbers)
 
 
 def peer(words, pattern, formula, timeout):
     seconds, status, said = run(words + [formula], timeout)
     conflicts = number_in(pattern, said)
     # cadical has no line for them where there are none
-    return Outcome(seconds, status, 0 if conflicts is None and status in ANSWERS else conflicts)
+    return Outcome(seconds, answer_of(status), 0 if conflicts is None and status in ANSWERS else conflicts)
 
 
 PEERS = {
@@ -341,27 +377,20 @@ PEERS = {
 }
 
 
-def least_budget(formula, proof, seconds):
-    """The lemmas of a satisfiable formula: the least budget under which it is found to be so."""
-    few, many = 0, 1
-    while ketch(formula, proof, 10 * seconds + 1, many).answer != "sat":
-        few, many = many, 4 * many
-    while many - few > 1:
-        middle = (few + many) // 2
-        if ketch(formula, proof, 10 * seconds + 1, middle).answer == "sat":
-            many = middle
-        else:
-            few = middle
-    return many if few else 0
-
-
 def shown(value, width, places=0):
     return f"{'-' if value is None else format(value, f'.{places}f'):>{width}}"
 
 
-def ratio(own, other):
-    ended = other and {own.answer, other.answer} <= {"sat", "unsat"}
-    return own.seconds / max(other.seconds, 0.001) if ended else None
+def quotient(own, other, least):
+    """Of two numbers, where both are known; a peer's is taken for this at least."""
+    return None if own is None or other is None else own / max(other, least)
+
+
+def ratios(own, other):
+    """Ketch's conflicts and seconds by a peer's, where both ended."""
+    if not other or not own.ended() or not other.ended():
+        return None, None
+    return quotient(own.conflicts, other.conflicts, 1), quotient(own.seconds, other.seconds, 0.001)
 
 
 def line(name, clauses, outcomes):
@@ -371,8 +400,8 @@ def line(name, clauses, outcomes):
     cells += [shown(one and one.conflicts, 9) for one in every]
     cells += [shown(one and one.rate(), 9) for one in every]
     cells += [shown(one and one.seconds, 9, 2) for one in every]
-    cells += [shown(ratio(own, other), 7, 1) for other in others]
-    cells.append(shown(own.hints / own.conflicts if own.hints and own.conflicts else None, 8, 1))
+    cells += [shown(one, 7, 1) for other in others for one in ratios(own, other)]
+    cells.append(shown(own.hints / own.lemmas if own.hints and own.lemmas else None, 8, 1))
     print(" ".join(cells), flush=True)
 
 
@@ -380,8 +409,9 @@ def head():
     names = ["ketch"] + list(PEERS)
     cells = [f"{'formula':35} {'answer':6} {'clauses':>8}"]
     cells += [f"{name + text:>{width}}" for text, width in (("", 9), ("/s", 9), (" s", 9)) for name in names]
-    print(" ".join(cells + [f"{'/' + name[:4]:>7}" for name in PEERS] + [f"{'hints/l':>8}"]))
-    print("(conflicts, conflicts a second, seconds, Ketch's seconds by the peer's, hints a lemma)")
+    cells += [f"{text + name[:4]:>7}" for name in PEERS for text in ("c/", "s/")]
+    print(" ".join(cells + [f"{'hints/l':>8}"]))
+    print("(conflicts, conflicts a second, user seconds, Ketch's conflicts and seconds by the peer's, hints a lemma)")
 
 
 def agree(name, wanted, outcomes):
@@ -391,22 +421,29 @@ def agree(name, wanted, outcomes):
         sys.exit(f"{name}: {({solver: one.answer for solver, one in outcomes.items()})}, wanted {wanted}")
 
 
-def compare(name, wanted, path, clauses, options):
+def compare(name, wanted, path, options):
+    """The outcomes of one formula."""
     proof = path + ".lrat"
     outcomes = {"ketch": ketch(path, proof, options.timeout)}
     for solver, (words, pattern) in PEERS.items():
         if shutil.which(words[0]):
             outcomes[solver] = peer(words, pattern, path, options.timeout)
-    own = outcomes["ketch"]
     agree(name, wanted, outcomes)
-    if options.check and own.answer == "unsat":
+    if options.check and outcomes["ketch"].answer == "unsat":
         seconds, status, said = run([KETCH, "lrat", path, proof], None)
         if status != 0:
             sys.exit(f"{name}: the proof is refused: {said}")
-    if own.answer == "sat" and own.seconds < options.timeout / 30:
-        own.conflicts = least_budget(path, proof, own.seconds)
     os.unlink(proof)
-    line(name, clauses, outcomes)
+    return outcomes
+
+
+def measure(name, wanted, circuit, folder, options):
+    """A line for a formula, or for all its shuffles."""
+    path, outcomes = os.path.join(folder, name.replace(",", "").replace(" ", "_") + ".cnf"), []
+    for seed in range(1, options.shuffles + 1) or [None]:
+        (circuit.shuffled(seed) if seed else circuit).write(path)
+        outcomes.append(compare(name, wanted, path, options))
+    line(name, len(circuit.clauses), {solver: total([one[solver] for one in outcomes]) for solver in outcomes[0]})
 
 
 def load(count, folder):
@@ -423,7 +460,8 @@ def load(count, folder):
 
 def words():
     parser = argparse.ArgumentParser(description="Ketch's solver beside cadical and minisat.")
-    parser.add_argument("--timeout", type=float, default=60)
+    parser.add_argument("--shuffles", type=int, default=0, help="how many shuffles of each formula, in place of itself")
+    parser.add_argument("--timeout", type=int, default=60, help="processor seconds for each run")
     parser.add_argument("--only", default="", help="formulas whose name has this word")
     parser.add_argument("--most", type=int, default=600_000, help="the most clauses of a formula")
     parser.add_argument("--folds", action="store_true", help="fold the constants of the circuits")
@@ -449,11 +487,8 @@ def main():
             if options.only not in name:
                 continue
             circuit = make()
-            name += ", " + (wanted or "unseen")
-            path = os.path.join(folder, name.replace(",", "").replace(" ", "_") + ".cnf")
             if len(circuit.clauses) <= options.most:
-                circuit.write(path)
-                compare(name, wanted, path, len(circuit.clauses), options)
+                measure(f"{name}, {wanted or 'unseen'}", wanted, circuit, folder, options)
         if options.only in "loading":
             load(2_000_000, scratch)
 

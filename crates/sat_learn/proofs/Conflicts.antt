@@ -7,7 +7,7 @@ use Rattle.cnf_base.specs.Status.{has, IsFalsifiedIn}
 use Rattle.cnf_base.proofs.Literals.{neg_ℤ-neg_ℤ, nat_abs-neg_ℤ}
 use Rattle.sat_trail.specs.Trail.{Assignment, TrailState, IsTrail, lits, upto}
 use Rattle.sat_learn.specs.Reasons.{HasId, Follows}
-use Rattle.sat_learn.specs.Resolving.{is_marked, StandsAt, Refutes, AreBelow, AreRootsClear, DifferAtRoots, with_marks}
+use Rattle.sat_learn.specs.Resolving.{is_marked, StandsAt, Refutes, AreBelow, AreRootsClear, AreRootsAmong, DifferAtRoots, with_marks}
 use Rattle.sat_learn.specs.Tracking.{is_open, IsFiled, IsBetween, IsTracked, IsFirstUip, IsMinimized}
 use Rattle.sat_learn.proofs.Assignments.{assignment_there, true_there, one_assignment, same_at, upto_true, true_upto, level_to}
 use Rattle.sat_learn.proofs.Refutation.{refutes_conflict}
@@ -28,28 +28,31 @@ kept_assignment t i p trail there h =
 
 -- ---- level 0
 
-pub roots_clear_untracked : (t : TrailState) (marks : List Bool) (kept : List ℤ) (rooted : Bool) (number : ℕ) → IsTrail t → IsTracked t marks kept rooted number → rooted ≡ false → AreRootsClear t.assignments marks 0
-roots_clear_untracked t marks kept rooted number trail h none i p there root from =
-    false_from_ne_true (is_marked marks p.lit) (λ marked.
-    let filed = h.filed (nat_abs p.lit) marked in
-    let same : filed.assignment ≡ p = one_assignment t filed.place i filed.assignment p trail filed.stands there filed.of_var in
-    let level_is : filed.assignment.level ≡ 0 = ap (λ (q : Assignment). q.level) same ∙ root in
-    let above = h.above in
-    elim filed.filed [
-      | inl e ↦ both_ways rooted none e.0
-      | inr e ↦ elim e [
-        | inl k ↦ (let x = h.between (neg_ℤ filed.assignment.lit) k in
-            let levels = kept_assignment t filed.place filed.assignment trail filed.stands x in
-            let low = x.above_root in
-            absurd (omega arith))
-        | inr k ↦ absurd (omega arith)
-      ]
-    ])
+-- those that are marked are among the literals that were met
+pub roots_among : (t : TrailState) (marks : List Bool) (kept root_lits : List ℤ) (number : ℕ) → IsTrail t → IsTracked t marks kept root_lits number → AreRootsAmong t.assignments marks root_lits
+roots_among t marks kept root_lits number trail h =
+    record {
+      covers = λ v marked root. (let filed = h.filed v marked in
+          let same : filed.assignment ≡ root.assignment = one_assignment t filed.place root.place filed.assignment root.assignment trail filed.stands root.stands (filed.of_var ∙ sym root.of_var) in
+          let level_is : filed.assignment.level ≡ 0 = ap (λ (q : Assignment). q.level) same ∙ root.root in
+          let above = h.above in
+          elim filed.filed [
+            | inl e ↦ e.0
+            | inr e ↦ elim e [
+              | inl k ↦ (let x = h.between (neg_ℤ filed.assignment.lit) k in
+                  let levels = kept_assignment t filed.place filed.assignment trail filed.stands x in
+                  let low = x.above_root in
+                  absurd (omega arith))
+              | inr k ↦ absurd (omega arith)
+            ]
+          ]);
+      false_now = h.roots_false;
+    }
 
 -- ---- the present level
 
-pub conflict_open : (t : TrailState) (marks : List Bool) (kept : List ℤ) (rooted : Bool) (number : ℕ) (conflict : List ℤ) → IsTrail t → IsTracked t marks kept rooted number → ((l : ℤ) → has conflict l ≡ true → is_marked marks l ≡ true) → IsFalsifiedIn (lits t.assignments) conflict → (IsFalsifiedIn (lits (upto (t.level - 1) t.assignments)) conflict → ⊥) → 0 < number
-conflict_open t marks kept rooted number conflict trail h marked false_now not_before =
+pub conflict_open : (t : TrailState) (marks : List Bool) (kept root_lits : List ℤ) (number : ℕ) (conflict : List ℤ) → IsTrail t → IsTracked t marks kept root_lits number → ((l : ℤ) → has conflict l ≡ true → is_marked marks l ≡ true) → IsFalsifiedIn (lits t.assignments) conflict → (IsFalsifiedIn (lits (upto (t.level - 1) t.assignments)) conflict → ⊥) → 0 < number
+conflict_open t marks kept root_lits number conflict trail h marked false_now not_before =
     elim (cases_lt 0 number) [
       | inl lt ↦ lt
       | inr none ↦ absurd (not_before (λ l inside. (not_true l inside, false_before none l inside)))
@@ -85,8 +88,8 @@ conflict_open t marks kept rooted number conflict trail h marked false_now not_b
         ]
 
 -- what is marked when one literal of the present level is left
-pub minimized_from : (t : TrailState) (marks after : List Bool) (kept : List ℤ) (rooted : Bool) (number place : ℕ) → IsTrail t → IsTracked t marks kept rooted number → number ≡ 1 → IsFirstUip t marks place → AreRootsClear t.assignments after 0 → DifferAtRoots t.assignments marks after → length after ≡ t.vars + 1 → IsMinimized t after kept place
-minimized_from t marks after kept rooted number place trail h one first_uip clear differ room =
+pub minimized_from : (t : TrailState) (marks after : List Bool) (kept root_lits : List ℤ) (number place : ℕ) → IsTrail t → IsTracked t marks kept root_lits number → number ≡ 1 → IsFirstUip t marks place → AreRootsClear t.assignments after 0 → DifferAtRoots t.assignments marks after → length after ≡ t.vars + 1 → IsMinimized t after kept place
+minimized_from t marks after kept root_lits number place trail h one first_uip clear differ room =
     record {
       above = h.above;
       room = room;
@@ -113,7 +116,7 @@ minimized_from t marks after kept rooted number place trail h one first_uip clea
     not_rooted v i p there root of_var m =
         both_ways (is_marked after p.lit) (clear i p there root (omega arith)) (ap (λ n. get_or after n false) of_var ∙ m)
 
-    by_file : (v : ℕ) → get_or marks v false ≡ true → IsFiled t kept rooted v → get_or after v false ≡ true → (nat_abs first_uip.assignment.lit ≡ v) ⊎ (list_any (eqb v) (map nat_abs kept) ≡ true)
+    by_file : (v : ℕ) → get_or marks v false ≡ true → IsFiled t kept root_lits v → get_or after v false ≡ true → (nat_abs first_uip.assignment.lit ≡ v) ⊎ (list_any (eqb v) (map nat_abs kept) ≡ true)
     by_file v old filed m =
         let P : ℕ → Type 0 = λ n. list_any (eqb n) (map nat_abs kept) ≡ true in
         let number_is = h.number in
@@ -140,6 +143,17 @@ conflict_in_range t marks conflict h room false_now k d lt =
 pub conflict_marked : (before marks : List Bool) (conflict : List ℤ) → ((v : ℕ) → get_or marks v false ≡ with_marks conflict before v) → (l : ℤ) → has conflict l ≡ true → is_marked marks l ≡ true
 conflict_marked before marks conflict each l inside =
     each (nat_abs l) ∙ or_right (get_or before (nat_abs l) false) (list_any (eqb (nat_abs l)) (map nat_abs conflict)) (any_from conflict l inside)
+
+-- and no others
+pub conflict_among : (t : TrailState) (before marks : List Bool) (conflict : List ℤ) → ((v : ℕ) → get_or before v false ≡ false) → ((v : ℕ) → get_or marks v false ≡ with_marks conflict before v) → IsFalsifiedIn (lits t.assignments) conflict → AreRootsAmong t.assignments marks conflict
+conflict_among t before marks conflict none each false_now =
+    record {
+      covers = λ v marked root. elim (or_cases (get_or before v false) (list_any (eqb v) (map nat_abs conflict)) (sym (each v) ∙ marked)) [
+        | inl e ↦ absurd (both_ways (get_or before v false) (none v) e)
+        | inr e ↦ e
+      ];
+      false_now = λ l inside. (false_now l inside).1;
+    }
 
 pub none_marked_at_root : (t : TrailState) (before marks after : List Bool) (conflict : List ℤ) → IsTrail t → t.level ≡ 0 → ((v : ℕ) → get_or before v false ≡ false) → ((v : ℕ) → get_or marks v false ≡ with_marks conflict before v) → IsFalsifiedIn (lits t.assignments) conflict → AreRootsClear t.assignments after 0 → DifferAtRoots t.assignments marks after → (v : ℕ) → get_or after v false ≡ false
 none_marked_at_root t before marks after conflict h root none each false_now clear differ v =

@@ -1,5 +1,5 @@
 -- How a walk down the trail finds the decisions that imply a literal.
-use Rattle.std.proofs.Common.{◌≡◌, ℕ, ◌+◌, ◌<◌, ◌≤◌, Bool, true, false, ◌||◌, eqb, ℤ, pos, neg_ℤ, nat_abs, Some, None, List, [], ◌∷◌, ◌++◌, ◌⊎◌, length, map, reverse, take, set, get_or, refl, ap, sym, ◌∙◌, subst, arith, inl, inr}
+use Rattle.std.proofs.Common.{◌≡◌, ℕ, ◌+◌, ◌<◌, Bool, true, false, ◌||◌, eqb, ℤ, neg_ℤ, nat_abs, None, List, [], ◌∷◌, ◌++◌, ◌⊎◌, length, map, reverse, take, set, get_or, ap, sym, ◌∙◌, subst, arith, inl, inr}
 use Rattle.std.specs.List.{list_any}
 use Rattle.std.proofs.lemmas.Bool.{cases_eq, cases_lt, cases_Bool, or_left, or_right, both_ways}
 use Rattle.std.proofs.lemmas.List.{reverse-append, get_or-set_other}
@@ -9,8 +9,8 @@ use Rattle.sat_trail.specs.Trail.{Assignment, TrailState, IsTrail, lits}
 use Rattle.sat_learn.specs.Reasons.{HaveIds, Follows}
 use Rattle.sat_learn.specs.Resolving.{is_marked, StandsAt, Refutes, IsAntecedent, with_marks}
 use Rattle.sat_learn.specs.Explaining.{denying}
-use Rattle.sat_learn.specs.Implying.{IsNegatedDecision, IsImplication, IsTracedTo}
-use Rattle.sat_learn.proofs.Assignments.{true_before, before_there, same_at, true_there}
+use Rattle.sat_learn.specs.Implying.{IsTracedTo}
+use Rattle.sat_learn.proofs.Assignments.{true_before, before_there, same_at}
 use Rattle.sat_learn.proofs.Refutation.{assumed_more, refutes_false, refutes_resolve, refutes_end}
 use Rattle.sat_learn.proofs.ResolveStep.{any_from, earlier, marked_then, noted_before}
 use Rattle.sat_learn.proofs.Explanations.{denying_one_way, denying_before, denying_first, antecedent_before}

@@ -9,6 +9,7 @@ pub mod Tracking
 pub mod ResolveStep
 pub mod Steps
 pub mod RootLevel
+pub mod RootQueues
 pub mod LearnedLiterals
 pub mod Conflicts
 pub mod Reasons

@@ -1,11 +1,11 @@
 -- Marks on variables, and the last marked literal.
 use Rattle.std.proofs.Common.{◌≡◌, ℕ, zero, suc, ◌+◌, ◌<◌, Bool, true, false, ◌||◌, eqb, ℤ, neg_ℤ, nat_abs, List, [], ◌∷◌, ◌++◌, length, map, take, set, get_or, replicate, ap, sym, ◌∙◌, subst, arith, inl, inr}
 use Rattle.std.specs.List.{list_any, count_by}
-use Rattle.std.proofs.lemmas.Bool.{cases_eq, cases_lt, eq-eqb, ne_eqb, eqb-true, and_parts, and_from, both_ways, or_right}
+use Rattle.std.proofs.lemmas.Bool.{cases_eq, cases_lt, or_cases, eq-eqb, ne_eqb, eqb-true, and_parts, and_from, both_ways, or_right}
 use Rattle.std.proofs.lemmas.List.{take_more, get_or-set_same, get_or-set_other, get_or_past, get_or_default, get_or-replicate, length-map, length-replicate, same_lists}
 use Rattle.std.proofs.lemmas.List.Elements.{All-get_or}
 use Rattle.cnf_base.specs.Dimacs.{IsLiteral}
-use Rattle.cnf_base.proofs.Literals.{or-false, has-head, nat_abs-neg_ℤ}
+use Rattle.cnf_base.proofs.Literals.{or-false, has-head, has-append, same_lit-true, nat_abs-neg_ℤ}
 use Rattle.cnf_base.specs.Status.{same_lit, has}
 use Rattle.sat_trail.specs.Trail.{Assignment, TrailState, IsTrail, lits}
 use Rattle.sat_learn.specs.Resolving.{is_marked, StandsAt, AreBelow, IsLastMarked, with_marks}
@@ -96,6 +96,18 @@ pub has_at : (ls : List ℤ) (i : ℕ) (l d : ℤ) → i < length ls → l ≡ g
 has_at [] i l d lt is = absurd (omega arith)
 has_at (m ∷ ms) zero l d lt is = let P : ℤ → Type 0 = λ x. has (m ∷ ms) x ≡ true in subst P (sym is) (has-head m ms)
 has_at (m ∷ ms) (suc i) l d lt is = or_right (same_lit m l) (has ms l) (has_at ms i l d (omega arith) is)
+
+-- one more false literal
+pub false_push : (true_lits ls more : List ℤ) (l : ℤ) → more ≡ ls ++ l ∷ [] → ((x : ℤ) → has ls x ≡ true → has true_lits (neg_ℤ x) ≡ true) → has true_lits (neg_ℤ l) ≡ true → (x : ℤ) → has more x ≡ true → has true_lits (neg_ℤ x) ≡ true
+false_push true_lits ls more l is each here x k =
+    let H : List ℤ → Type 0 = λ ys. has ys x ≡ true in
+    elim (or_cases (has ls x) (has (l ∷ []) x) (sym (has-append ls (l ∷ []) x) ∙ subst H is k)) [
+      | inl e ↦ each x e
+      | inr e ↦ elim (or_cases (same_lit l x) false e) [
+        | inl f ↦ (let P : ℤ → Type 0 = λ y. has true_lits (neg_ℤ y) ≡ true in subst P (same_lit-true l x f) here)
+        | inr f ↦ cc
+      ]
+    ]
 
 -- a marked variable has a mark
 pub mark_in_range : (marks : List Bool) (l : ℤ) → is_marked marks l ≡ true → nat_abs l < length marks

@@ -1,10 +1,10 @@
 -- A literal of a level below the present one, resolved away.
-use Rattle.std.proofs.Common.{◌≡◌, ℕ, ◌<◌, Bool, true, false, eqb, ℤ, neg_ℤ, nat_abs, List, [], ◌∷◌, ◌++◌, length, map, set, get_or, refl, ap, sym, ◌∙◌, subst, arith, inl, inr}
+use Rattle.std.proofs.Common.{◌≡◌, ℕ, ◌<◌, Bool, true, false, eqb, ℤ, neg_ℤ, nat_abs, List, [], length, map, set, get_or, refl, ap, sym, ◌∙◌, subst, arith, inl, inr}
 use Rattle.std.specs.List.{list_any}
-use Rattle.std.proofs.lemmas.Bool.{cases_eq, cases_Bool, or_cases, or_left, both_ways}
+use Rattle.std.proofs.lemmas.Bool.{cases_eq, cases_Bool, or_left, both_ways}
 use Rattle.std.proofs.lemmas.List.{length-set, get_or-set_same, get_or-set_other}
 use Rattle.cnf_base.specs.Status.{same_lit, has}
-use Rattle.cnf_base.proofs.Literals.{same_lit-true, same_lit-apart, has-append}
+use Rattle.cnf_base.proofs.Literals.{same_lit-true, same_lit-apart}
 use Rattle.sat_trail.specs.Trail.{Assignment, TrailState, IsTrail}
 use Rattle.sat_learn.specs.Resolving.{is_marked, StandsAt, IsAntecedent, with_marks}
 use Rattle.sat_learn.specs.Tracking.{IsEarlier, IsTracked, IsFirstUip}
@@ -23,8 +23,8 @@ antecedent_earlier clauses proof_ids t marks place p antecedent hint h there kno
           inr (before.1.level, record { assignment = before.1; place = before.0; stands = before.2; negated = before.3; at_level = refl }, omega arith))
     ]
 
-pub track_unmark_earlier : (t : TrailState) (marks : List Bool) (kept : List ℤ) (rooted : Bool) (number : ℕ) (i : ℕ) (p : Assignment) → IsTrail t → IsTracked t marks kept rooted number → StandsAt t.assignments i p → p.level < t.level → nat_abs p.lit < length marks → IsTracked t (set marks (nat_abs p.lit) false) kept rooted number
-track_unmark_earlier t marks kept rooted number i p trail h there below room =
+pub track_unmark_earlier : (t : TrailState) (marks : List Bool) (kept root_lits : List ℤ) (number : ℕ) (i : ℕ) (p : Assignment) → IsTrail t → IsTracked t marks kept root_lits number → StandsAt t.assignments i p → p.level < t.level → nat_abs p.lit < length marks → IsTracked t (set marks (nat_abs p.lit) false) kept root_lits number
+track_unmark_earlier t marks kept root_lits number i p trail h there below room =
     let var = nat_abs p.lit in
     let differs : p.level ≡ t.level → ⊥ = λ e. absurd (omega arith) in
     record {
@@ -36,6 +36,7 @@ track_unmark_earlier t marks kept rooted number i p trail h there below room =
         | inr e ↦ h.filed v (sym (get_or-set_other marks var v false false e) ∙ k)
       ];
       between = h.between;
+      roots_false = h.roots_false;
       number = h.number ∙ count_other_level t marks var false i p trail there refl differs;
     }
 
@@ -53,18 +54,6 @@ first_uip_stays t old mid antecedent i p place h there below noted first_uip =
           ∙ or_left (get_or old (nat_abs first_uip.assignment.lit) false) (list_any (eqb (nat_abs first_uip.assignment.lit)) (map nat_abs antecedent)) first_uip.marked;
       at_level = first_uip.at_level;
     }
-
--- one more false literal
-pub false_push : (true_lits ls more : List ℤ) (l : ℤ) → more ≡ ls ++ l ∷ [] → ((x : ℤ) → has ls x ≡ true → has true_lits (neg_ℤ x) ≡ true) → has true_lits (neg_ℤ l) ≡ true → (x : ℤ) → has more x ≡ true → has true_lits (neg_ℤ x) ≡ true
-false_push true_lits ls more l is each here x k =
-    let H : List ℤ → Type 0 = λ ys. has ys x ≡ true in
-    elim (or_cases (has ls x) (has (l ∷ []) x) (sym (has-append ls (l ∷ []) x) ∙ subst H is k)) [
-      | inl e ↦ each x e
-      | inr e ↦ elim (or_cases (same_lit l x) false e) [
-        | inl f ↦ (let P : ℤ → Type 0 = λ y. has true_lits (neg_ℤ y) ≡ true in subst P (same_lit-true l x f) here)
-        | inr f ↦ cc
-      ]
-    ]
 
 pub false_none : (true_lits ls : List ℤ) → ls ≡ [] → (x : ℤ) → has ls x ≡ true → has true_lits (neg_ℤ x) ≡ true
 false_none true_lits ls is x k = let H : List ℤ → Type 0 = λ ys. has ys x ≡ true in let none : has [] x ≡ true = subst H is k in cc

@@ -187,6 +187,3 @@ resolves_step clauses proof_ids t place p antecedent hint old mid hints more h t
 
 pub resolves_nothing : (clauses : List (List ℤ)) (proof_ids : List ℕ) (assignments : List Assignment) (marks : List Bool) (hints : List ℤ) → Resolves clauses proof_ids assignments marks hints marks hints
 resolves_nothing clauses proof_ids assignments marks hints live has_id refutes = refutes
-
-pub resolves_then : (clauses : List (List ℤ)) (proof_ids : List ℕ) (assignments : List Assignment) (a b c : List Bool) (x y z : List ℤ) → Resolves clauses proof_ids assignments a x b y → Resolves clauses proof_ids assignments b y c z → Resolves clauses proof_ids assignments a x c z
-resolves_then clauses proof_ids assignments a b c x y z h k live has_id refutes = k live has_id (h live has_id refutes)

@@ -1,7 +1,7 @@
 -- How the marks stay tracked while a conflict is resolved.
 use Rattle.std.proofs.Common.{◌≡◌, ℕ, ◌+◌, ◌-◌, ◌^◌, ◌<◌, ◌≤◌, Bool, true, false, ◌&&◌, eqb, ℤ, neg_ℤ, nat_abs, List, [], ◌∷◌, ◌++◌, length, map, set, get_or, ◌⊎◌, refl, ap, sym, ◌∙◌, subst, arith, inl, inr}
 use Rattle.std.specs.List.{list_any, count_by}
-use Rattle.std.proofs.lemmas.Bool.{cases_eq, cases_lt, eqb-true, ne_eqb, or_cases, or_left, or_right, and_right, and_left, both_ways}
+use Rattle.std.proofs.lemmas.Bool.{cases_eq, cases_lt, eqb-true, eq-eqb, ne_eqb, or_cases, or_left, or_right, and_right, and_left, both_ways}
 use Rattle.std.proofs.lemmas.Map.Steps.{length-le_from_distinct_below}
 use Rattle.std.proofs.lemmas.List.Sums.{count_by-le-length}
 use Rattle.std.proofs.lemmas.List.{length-map, length-set, get_or-set_same, get_or-set_other}
@@ -10,9 +10,9 @@ use Rattle.cnf_base.proofs.Literals.{same_lit-true, has-head, has-append, neg_�
 use Rattle.sat_trail.specs.Trail.{Assignment, TrailState, IsTrail, lits}
 use Rattle.sat_learn.specs.Resolving.{is_marked, StandsAt, IsFalseAt}
 use Rattle.sat_learn.specs.Tracking.{is_open, IsFiled, IsBetween, IsTracked}
-use Rattle.sat_learn.proofs.Assignments.{one_place, one_assignment, true_literal}
+use Rattle.sat_learn.proofs.Assignments.{one_place, one_assignment, true_literal, true_by}
 use Rattle.sat_learn.proofs.Counts.{count_found, count_same, count_one_more}
-use Rattle.sat_learn.proofs.MarkedLiterals.{open_parts, open_from}
+use Rattle.sat_learn.proofs.MarkedLiterals.{any_push, open_parts, open_from, false_push}
 
 -- a variable of a list's literals is that of one of them
 pub any_var : (v : ℕ) (ls : List ℤ) → list_any (eqb v) (map nat_abs ls) ≡ true → (l : ℤ) × (has ls l ≡ true) × (nat_abs l ≡ v)
@@ -79,10 +79,11 @@ count_other_level t marks var b i p h there of_var differs =
 -- ---- one more literal is noted
 
 -- where the marked variables are filed, one more is
-filed_more : (t : TrailState) (marks : List Bool) (kept more : List ℤ) (rooted roots : Bool) (l : ℤ) (p : Assignment) (i : ℕ) → StandsAt t.assignments i p → nat_abs p.lit ≡ nat_abs l → ((roots ≡ true) × (p.level ≡ 0)) ⊎ ((has more (neg_ℤ p.lit) ≡ true) ⊎ (p.level ≡ t.level)) → ((x : ℤ) → has kept x ≡ true → has more x ≡ true) → (rooted ≡ true → roots ≡ true) → ((v : ℕ) → get_or marks v false ≡ true → IsFiled t kept rooted v) → (v : ℕ) → get_or (set marks (nat_abs l) true) v false ≡ true → IsFiled t more roots v
-filed_more t marks kept more rooted roots l p i there of_var here grows roots_grow filed v marked =
+filed_more : (t : TrailState) (marks : List Bool) (kept more root_lits roots : List ℤ) (l : ℤ) (p : Assignment) (i : ℕ) → StandsAt t.assignments i p → nat_abs p.lit ≡ nat_abs l → ((list_any (eqb (nat_abs l)) (map nat_abs roots) ≡ true) × (p.level ≡ 0)) ⊎ ((has more (neg_ℤ p.lit) ≡ true) ⊎ (p.level ≡ t.level)) → ((x : ℤ) → has kept x ≡ true → has more x ≡ true) → ((v : ℕ) → list_any (eqb v) (map nat_abs root_lits) ≡ true → list_any (eqb v) (map nat_abs roots) ≡ true) → ((v : ℕ) → get_or marks v false ≡ true → IsFiled t kept root_lits v) → (v : ℕ) → get_or (set marks (nat_abs l) true) v false ≡ true → IsFiled t more roots v
+filed_more t marks kept more root_lits roots l p i there of_var here grows roots_grow filed v marked =
     elim (cases_eq v (nat_abs l)) [
-      | inl e ↦ record { assignment = p; place = i; stands = there; of_var = of_var ∙ sym e; filed = here }
+      | inl e ↦ (let F : ℕ → Type 0 = λ n. ((list_any (eqb n) (map nat_abs roots) ≡ true) × (p.level ≡ 0)) ⊎ ((has more (neg_ℤ p.lit) ≡ true) ⊎ (p.level ≡ t.level)) in
+          record { assignment = p; place = i; stands = there; of_var = of_var ∙ sym e; filed = subst F (sym e) here })
       | inr e ↦ (let old = filed v (sym (get_or-set_other marks (nat_abs l) v true false e) ∙ marked) in
           record {
             assignment = old.assignment;
@@ -90,7 +91,7 @@ filed_more t marks kept more rooted roots l p i there of_var here grows roots_gr
             stands = old.stands;
             of_var = old.of_var;
             filed = elim old.filed [
-              | inl root ↦ inl (roots_grow root.0, root.1)
+              | inl root ↦ inl (roots_grow v root.0, root.1)
               | inr other ↦ elim other [
                 | inl k ↦ inr (inl (grows (neg_ℤ old.assignment.lit) k))
                 | inr k ↦ inr (inr k)
@@ -99,8 +100,11 @@ filed_more t marks kept more rooted roots l p i there of_var here grows roots_gr
           })
     ]
 
-pub track_root : (t : TrailState) (marks : List Bool) (kept : List ℤ) (rooted : Bool) (number : ℕ) (l : ℤ) (level : ℕ) → IsTrail t → IsTracked t marks kept rooted number → nat_abs l < length marks → IsFalseAt t.assignments l level → level ≡ 0 → IsTracked t (set marks (nat_abs l) true) kept true number
-track_root t marks kept rooted number l level trail h room at root =
+pub track_root : (t : TrailState) (marks : List Bool) (kept root_lits : List ℤ) (number : ℕ) (l : ℤ) (level : ℕ) → IsTrail t → IsTracked t marks kept root_lits number → nat_abs l < length marks → IsFalseAt t.assignments l level → level ≡ 0 → IsTracked t (set marks (nat_abs l) true) kept (root_lits ++ l ∷ []) number
+track_root t marks kept root_lits number l level trail h room at root =
+    let roots = root_lits ++ l ∷ [] in
+    let grows : (v : ℕ) → list_any (eqb v) (map nat_abs root_lits) ≡ true → list_any (eqb v) (map nat_abs roots) ≡ true = λ v k. any_push v root_lits l ∙ or_left (list_any (eqb v) (map nat_abs root_lits)) (eqb v (nat_abs l)) k in
+    let there : list_any (eqb (nat_abs l)) (map nat_abs roots) ≡ true = any_push (nat_abs l) root_lits l ∙ or_right (list_any (eqb (nat_abs l)) (map nat_abs root_lits)) (eqb (nat_abs l) (nat_abs l)) (eq-eqb (nat_abs l) (nat_abs l) refl) in
     let of_var : nat_abs at.assignment.lit ≡ nat_abs l = ap nat_abs at.negated ∙ nat_abs-neg_ℤ l in
     let above = h.above in
     let level_is = at.at_level in
@@ -108,13 +112,14 @@ track_root t marks kept rooted number l level trail h room at root =
     record {
       above = h.above;
       room = length-set marks (nat_abs l) true ∙ h.room;
-      filed = filed_more t marks kept kept rooted true l at.assignment at.place at.stands of_var (inl (refl, at.at_level ∙ root)) (λ x k. k) (λ e. refl) h.filed;
+      filed = filed_more t marks kept kept root_lits roots l at.assignment at.place at.stands of_var (inl (there, at.at_level ∙ root)) (λ x k. k) grows h.filed;
       between = h.between;
+      roots_false = false_push (lits t.assignments) root_lits roots l refl h.roots_false (true_by t l level at);
       number = h.number ∙ count_other_level t marks (nat_abs l) true at.place at.assignment trail at.stands of_var differs;
     }
 
-pub track_kept : (t : TrailState) (marks : List Bool) (kept : List ℤ) (rooted : Bool) (number : ℕ) (l : ℤ) (level : ℕ) → IsTrail t → IsTracked t marks kept rooted number → nat_abs l < length marks → IsFalseAt t.assignments l level → (level ≡ 0 → ⊥) → level < t.level → IsTracked t (set marks (nat_abs l) true) (kept ++ l ∷ []) rooted number
-track_kept t marks kept rooted number l level trail h room at above below =
+pub track_kept : (t : TrailState) (marks : List Bool) (kept root_lits : List ℤ) (number : ℕ) (l : ℤ) (level : ℕ) → IsTrail t → IsTracked t marks kept root_lits number → nat_abs l < length marks → IsFalseAt t.assignments l level → (level ≡ 0 → ⊥) → level < t.level → IsTracked t (set marks (nat_abs l) true) (kept ++ l ∷ []) root_lits number
+track_kept t marks kept root_lits number l level trail h room at above below =
     let of_var : nat_abs at.assignment.lit ≡ nat_abs l = ap nat_abs at.negated ∙ nat_abs-neg_ℤ l in
     let level_is = at.at_level in
     let differs : at.assignment.level ≡ t.level → ⊥ = λ e. absurd (omega arith) in
@@ -126,7 +131,8 @@ track_kept t marks kept rooted number l level trail h room at above below =
     record {
       above = h.above;
       room = length-set marks (nat_abs l) true ∙ h.room;
-      filed = filed_more t marks kept (kept ++ l ∷ []) rooted rooted l at.assignment at.place at.stands of_var (inr (inl (subst H negation there))) grows (λ e. e) h.filed;
+      filed = filed_more t marks kept (kept ++ l ∷ []) root_lits root_lits l at.assignment at.place at.stands of_var (inr (inl (subst H negation there))) grows (λ v e. e) h.filed;
+      roots_false = h.roots_false;
       between = λ x k. elim (or_cases (has kept x) (has (l ∷ []) x) (sym (has-append kept (l ∷ []) x) ∙ k)) [
         | inl e ↦ h.between x e
         | inr e ↦ elim (or_cases (same_lit l x) false e) [
@@ -137,8 +143,8 @@ track_kept t marks kept rooted number l level trail h room at above below =
       number = h.number ∙ count_other_level t marks (nat_abs l) true at.place at.assignment trail at.stands of_var differs;
     }
 
-pub track_open : (t : TrailState) (marks : List Bool) (kept : List ℤ) (rooted : Bool) (number : ℕ) (l : ℤ) (level : ℕ) → IsTrail t → IsTracked t marks kept rooted number → nat_abs l < length marks → is_marked marks l ≡ false → IsFalseAt t.assignments l level → level ≡ t.level → IsTracked t (set marks (nat_abs l) true) kept rooted (number + 1)
-track_open t marks kept rooted number l level trail h room unmarked at present =
+pub track_open : (t : TrailState) (marks : List Bool) (kept root_lits : List ℤ) (number : ℕ) (l : ℤ) (level : ℕ) → IsTrail t → IsTracked t marks kept root_lits number → nat_abs l < length marks → is_marked marks l ≡ false → IsFalseAt t.assignments l level → level ≡ t.level → IsTracked t (set marks (nat_abs l) true) kept root_lits (number + 1)
+track_open t marks kept root_lits number l level trail h room unmarked at present =
     let of_var : nat_abs at.assignment.lit ≡ nat_abs l = ap nat_abs at.negated ∙ nat_abs-neg_ℤ l in
     let level_is : at.assignment.level ≡ t.level = at.at_level ∙ present in
     let before : is_marked marks at.assignment.lit ≡ false = ap (λ n. get_or marks n false) of_var ∙ unmarked in
@@ -150,15 +156,16 @@ track_open t marks kept rooted number l level trail h room unmarked at present =
     record {
       above = h.above;
       room = length-set marks (nat_abs l) true ∙ h.room;
-      filed = filed_more t marks kept kept rooted rooted l at.assignment at.place at.stands of_var (inr (inr level_is)) (λ x k. k) (λ e. e) h.filed;
+      filed = filed_more t marks kept kept root_lits root_lits l at.assignment at.place at.stands of_var (inr (inr level_is)) (λ x k. k) (λ v e. e) h.filed;
+      roots_false = h.roots_false;
       between = h.between;
       number = ap (λ n. n + 1) h.number ∙ sym more;
     }
 
 -- ---- the resolved literal isn't marked any more
 
-pub track_unmark : (t : TrailState) (marks : List Bool) (kept : List ℤ) (rooted : Bool) (number : ℕ) (i : ℕ) (p : Assignment) → IsTrail t → IsTracked t marks kept rooted number → StandsAt t.assignments i p → p.level ≡ t.level → is_marked marks p.lit ≡ true → nat_abs p.lit < length marks → IsTracked t (set marks (nat_abs p.lit) false) kept rooted (number - 1)
-track_unmark t marks kept rooted number i p trail h there level_is marked room =
+pub track_unmark : (t : TrailState) (marks : List Bool) (kept root_lits : List ℤ) (number : ℕ) (i : ℕ) (p : Assignment) → IsTrail t → IsTracked t marks kept root_lits number → StandsAt t.assignments i p → p.level ≡ t.level → is_marked marks p.lit ≡ true → nat_abs p.lit < length marks → IsTracked t (set marks (nat_abs p.lit) false) kept root_lits (number - 1)
+track_unmark t marks kept root_lits number i p trail h there level_is marked room =
     let var = nat_abs p.lit in
     let after : is_marked (set marks var false) p.lit ≡ false = get_or-set_same marks var false false room in
     let fewer = count_one_more (is_open t.level (set marks var false)) (is_open t.level marks) t.assignments i p there
@@ -175,18 +182,20 @@ track_unmark t marks kept rooted number i p trail h there level_is marked room =
         | inr e ↦ h.filed v (sym (get_or-set_other marks var v false false e) ∙ k)
       ];
       between = h.between;
+      roots_false = h.roots_false;
       number = omega arith;
     }
 
 -- ---- nothing is marked
 
-pub track_none : (t : TrailState) (marks : List Bool) → 0 < t.level → length marks ≡ t.vars + 1 → ((v : ℕ) → get_or marks v false ≡ false) → IsTracked t marks [] false 0
+pub track_none : (t : TrailState) (marks : List Bool) → 0 < t.level → length marks ≡ t.vars + 1 → ((v : ℕ) → get_or marks v false ≡ false) → IsTracked t marks [] [] 0
 track_none t marks above room unmarked =
     record {
       above = above;
       room = room;
       filed = λ v k. absurd (both_ways (get_or marks v false) (unmarked v) k);
       between = λ x k. cc;
+      roots_false = λ x k. cc;
       number = elim (cases_lt 0 (count_by (is_open t.level marks) t.assignments)) [
         | inl some ↦ (let found = count_found (is_open t.level marks) t.assignments some in
             absurd (both_ways (is_marked marks found.1.lit) (unmarked (nat_abs found.1.lit)) (open_parts t.level marks found.1 found.3).0))
@@ -194,9 +203,9 @@ track_none t marks above room unmarked =
       ];
     }
 
-pub track_begun : (t : TrailState) (marks : List Bool) (kept : List ℤ) (rooted : Bool) (number : ℕ) → kept ≡ [] → rooted ≡ false → number ≡ 0 → 0 < t.level → length marks ≡ t.vars + 1 → ((v : ℕ) → get_or marks v false ≡ false) → IsTracked t marks kept rooted number
-track_begun t marks kept rooted number no_kept no_root no_open above room unmarked =
-    let K : List ℤ → Type 0 = λ ls. IsTracked t marks ls rooted number in
-    let R : Bool → Type 0 = λ b. IsTracked t marks [] b number in
-    let N : ℕ → Type 0 = λ n. IsTracked t marks [] false n in
+pub track_begun : (t : TrailState) (marks : List Bool) (kept root_lits : List ℤ) (number : ℕ) → kept ≡ [] → root_lits ≡ [] → number ≡ 0 → 0 < t.level → length marks ≡ t.vars + 1 → ((v : ℕ) → get_or marks v false ≡ false) → IsTracked t marks kept root_lits number
+track_begun t marks kept root_lits number no_kept no_root no_open above room unmarked =
+    let K : List ℤ → Type 0 = λ ls. IsTracked t marks ls root_lits number in
+    let R : List ℤ → Type 0 = λ ls. IsTracked t marks [] ls number in
+    let N : ℕ → Type 0 = λ n. IsTracked t marks [] [] n in
     subst K (sym no_kept) (subst R (sym no_root) (subst N (sym no_open) (track_none t marks above room unmarked)))

@@ -1,5 +1,5 @@
 -- Resolution, where marks on the variables stand for the clause: its literals are the negations of the trail's marked ones.
-use Rattle.std.specs.Prelude.{◌≡◌, ◌≢◌, ℕ, ◌+◌, ◌<◌, ◌≤◌, ◌^◌, IsTrue, IsFalse, Bool, false, ◌||◌, nat_eq, ℤ, pos, neg_ℤ, nat_abs, Some, IsSome, List, [], length, map, reverse, take, slice_get, slice_index_or, All, ◌⊎◌}
+use Rattle.std.specs.Prelude.{◌≡◌, ◌≢◌, ℕ, ◌+◌, ◌<◌, ◌≤◌, ◌^◌, IsTrue, IsFalse, Bool, false, ◌||◌, nat_eq, ℤ, pos, neg_ℤ, nat_abs, Some, IsSome, List, [], length, map, reverse, take, slice_get, slice_index_or, Contains, All, ◌⊎◌}
 use Rattle.std.specs.List.{list_any, AllByRecursion}
 use Rattle.cnf_base.specs.Status.{has}
 use Rattle.lrat_text.specs.Standing.{clause_at}
@@ -91,6 +91,29 @@ pub record IsRooted (assignments : List Assignment) (var : ℕ) : Type 0 where
 -- no variable of level 0 is marked from this place on
 abbrev pub AreRootsClear : List Assignment → List Bool → ℕ → Type 0
 AreRootsClear assignments marks place = (i : ℕ) (p : Assignment) → StandsAt assignments i p → p.level ≡ 0 → place ≤ i → IsFalse (is_marked marks p.lit)
+
+-- the literal at a place is of level 0 and marked
+pub record IsMarkedRoot (assignments : List Assignment) (marks : List Bool) (place : ℕ) : Type 0 where
+  pub assignment : Assignment
+  pub stands : StandsAt assignments place assignment
+  pub root : assignment.level ≡ 0
+  pub marked : IsTrue (is_marked marks assignment.lit)
+
+-- the marked variables of level 0 are among those of these literals, which are false
+pub record AreRootsAmong (assignments : List Assignment) (marks : List Bool) (ls : List ℤ) : Type 0 where
+  pub covers : (v : ℕ) → IsTrue (slice_index_or marks v false) → IsRooted assignments v → IsTrue (list_any (nat_eq v) (map nat_abs ls))
+  pub false_now : (l : ℤ) → IsTrue (has ls l) → IsTrue (has (lits assignments) (neg_ℤ l))
+
+-- each marked literal of level 0 that stands before a place waits in a queue of places
+abbrev pub AreQueued : List Assignment → List Bool → List ℕ → ℕ → Type 0
+AreQueued assignments marks queue place = (i : ℕ) (p : Assignment) → StandsAt assignments i p → p.level ≡ 0 → IsTrue (is_marked marks p.lit) → i < place → Contains queue i
+
+-- a place before another has the last marked literal of level 0, and the marked ones before it wait
+pub record IsNextRoot (assignments : List Assignment) (marks : List Bool) (queue : List ℕ) (before place : ℕ) : Type 0 where
+  pub below : place < before
+  pub root : IsMarkedRoot assignments marks place
+  pub clear : AreRootsClear assignments marks (place + 1)
+  pub queued : AreQueued assignments marks queue place
 
 -- marks differ at variables of level 0 alone
 abbrev pub DifferAtRoots : List Assignment → List Bool → List Bool → Type 0

@@ -2,20 +2,21 @@
 use Rattle.std.specs.Prelude.{◌≡◌, ℕ, ◌+◌, ◌<◌, ◌≤◌, IsTrue, Bool, false, ◌&&◌, nat_eq, ℤ, neg_ℤ, nat_abs, List, ◌∷◌, if◌then◌else◌, length, map, count_by, slice_index_or, ◌⊎◌}
 use Rattle.std.specs.List.{IsDistinct, list_any}
 use Rattle.cnf_base.specs.Status.{has}
-use Rattle.sat_trail.specs.Trail.{Assignment, TrailState}
+use Rattle.sat_trail.specs.Trail.{Assignment, TrailState, lits}
 use Rattle.sat_learn.specs.Resolving.{is_marked, StandsAt, IsFalseAt}
 
 -- whether an assignment is marked and of this level
 abbrev pub is_open : ℕ → List Bool → Assignment → Bool
 is_open level marks p = is_marked marks p.lit && nat_eq p.level level
 
--- a marked variable is assigned: at level 0, at the present level, or its false literal is kept
-pub record IsFiled (t : TrailState) (kept : List ℤ) (rooted : Bool) (var : ℕ) : Type 0 where
+-- a marked variable is assigned: at level 0, where one of its literals is kept too, at the present level, or its false literal
+-- is kept
+pub record IsFiled (t : TrailState) (kept root_lits : List ℤ) (var : ℕ) : Type 0 where
   pub assignment : Assignment
   pub place : ℕ
   pub stands : StandsAt t.assignments place assignment
   pub of_var : nat_abs assignment.lit ≡ var
-  pub filed : (IsTrue rooted × (assignment.level ≡ 0)) ⊎ (IsTrue (has kept (neg_ℤ assignment.lit)) ⊎ (assignment.level ≡ t.level))
+  pub filed : (IsTrue (list_any (nat_eq var) (map nat_abs root_lits)) × (assignment.level ≡ 0)) ⊎ (IsTrue (has kept (neg_ℤ assignment.lit)) ⊎ (assignment.level ≡ t.level))
 
 -- a literal is false at a level between 0 and the present one
 pub record IsBetween (t : TrailState) (l : ℤ) : Type 0 where
@@ -28,13 +29,14 @@ pub record IsBetween (t : TrailState) (l : ℤ) : Type 0 where
 abbrev pub IsEarlier : TrailState → List Bool → ℤ → Type 0
 IsEarlier t marks l = IsTrue (is_marked marks l) ⊎ ((level : ℕ) × IsFalseAt t.assignments l level × (level < t.level))
 
--- the marked variables, the literals that are or were kept, whether one of level 0 is marked, and how many of the present
--- level are
-pub record IsTracked (t : TrailState) (marks : List Bool) (kept : List ℤ) (rooted : Bool) (open_count : ℕ) : Type 0 where
+-- the marked variables, the literals that are or were kept, those of level 0 that are or were, and how many variables of the
+-- present level are marked
+pub record IsTracked (t : TrailState) (marks : List Bool) (kept root_lits : List ℤ) (open_count : ℕ) : Type 0 where
   pub above : 0 < t.level
   pub room : length marks ≡ t.vars + 1
-  pub filed : (v : ℕ) → IsTrue (slice_index_or marks v false) → IsFiled t kept rooted v
+  pub filed : (v : ℕ) → IsTrue (slice_index_or marks v false) → IsFiled t kept root_lits v
   pub between : (l : ℤ) → IsTrue (has kept l) → IsBetween t l
+  pub roots_false : (l : ℤ) → IsTrue (has root_lits l) → IsTrue (has (lits t.assignments) (neg_ℤ l))
   pub number : open_count ≡ count_by (is_open t.level marks) t.assignments
 
 -- a level that no kept literal is above, and that one has where it isn't 0

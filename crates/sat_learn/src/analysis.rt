@@ -11,26 +11,26 @@ use ketch_base::OutOfMemory;
 use sat_trail::Trail;
 use std::alloc::Global;
 
-/// The false literals of levels between 0 and the present one whose variables are marked; the hints, the last one first;
-/// whether a variable of level 0 is marked; how many of the present level are.
+/// The false literals of levels between 0 and the present one whose variables are marked, and those of level 0; the hints,
+/// the last one first; how many variables of the present level are marked.
 #[derive(Drop)]
 pub struct Analysis {
     pub kept: Vec<CnfLit>,
+    pub root_lits: Vec<CnfLit>,
     pub hints: Vec<i64>,
-    pub rooted: bool,
     pub open_count: u32,
 }
 
 pub fn new_analysis(alloc: Global) -> Analysis
     ensures kept { result.kept.items ≡ [] }
     ensures hints { result.hints.items ≡ [] }
-    ensures rooted { result.rooted ≡ false }
+    ensures root_lits { result.root_lits.items ≡ [] }
     ensures count { result.open_count ≡ 0 }
 {
     Analysis {
         kept: Vec::new(alloc),
+        root_lits: Vec::new(alloc),
         hints: Vec::new(alloc),
-        rooted: false,
         open_count: 0,
     }
 }
@@ -55,10 +55,10 @@ fn note(
     lit: CnfLit,
 ) -> Result<(), OutOfMemory>
     requires trail { IsTrail trail.now }
-    requires tracked { IsTracked trail.now marks.old analysis.old.kept.items analysis.old.rooted analysis.old.open_count }
+    requires tracked { IsTracked trail.now marks.old analysis.old.kept.items analysis.old.root_lits.items analysis.old.open_count }
     requires in_range { nat_abs lit < length marks.old }
     requires false_now { IsTrue (is_marked marks.old lit) ⊎ IsTrue (has (lits trail.now.assignments) (neg_ℤ lit)) }
-    ensures tracked { OnOk result (IsTracked trail.now marks.new analysis.new.kept.items analysis.new.rooted analysis.new.open_count) }
+    ensures tracked { OnOk result (IsTracked trail.now marks.new analysis.new.kept.items analysis.new.root_lits.items analysis.new.open_count) }
     ensures marks { marks.new ≡ slice_set marks.old (nat_abs lit) true }
     ensures hints { analysis.new.hints ≡ analysis.old.hints }
     ensures count { analysis.old.open_count ≤ analysis.new.open_count }
@@ -71,7 +71,7 @@ fn note(
     let level = level_of_false(trail, lit);
     marks[index] = true;
     if level == 0 {
-        analysis.rooted = true;
+        analysis.root_lits.push(lit)?;
     } else if level < trail.level() {
         analysis.kept.push(lit)?;
     } else {
@@ -88,9 +88,9 @@ pub fn note_all(
     clause: &[CnfLit],
 ) -> Result<(), OutOfMemory>
     requires trail { IsTrail trail.now }
-    requires tracked { IsTracked trail.now marks.old analysis.old.kept.items analysis.old.rooted analysis.old.open_count }
+    requires tracked { IsTracked trail.now marks.old analysis.old.kept.items analysis.old.root_lits.items analysis.old.open_count }
     requires false_now { (l : ℤ) → IsTrue (has clause.now l) → IsTrue (is_marked marks.old l) ⊎ IsTrue (has (lits trail.now.assignments) (neg_ℤ l)) }
-    ensures tracked { OnOk result (IsTracked trail.now marks.new analysis.new.kept.items analysis.new.rooted analysis.new.open_count) }
+    ensures tracked { OnOk result (IsTracked trail.now marks.new analysis.new.kept.items analysis.new.root_lits.items analysis.new.open_count) }
     ensures marks { OnOk result ((v : ℕ) → slice_index_or marks.new v false ≡ with_marks clause.now marks.old v) }
     ensures hints { analysis.new.hints ≡ analysis.old.hints }
     ensures count { analysis.old.open_count ≤ analysis.new.open_count }

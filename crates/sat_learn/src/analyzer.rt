@@ -15,6 +15,7 @@ use crate::learned_clause::LearnedClause;
 use crate::minimize::Visit;
 use crate::premises::Premises;
 use crate::resolution::{refute_marked, resolve_conflict};
+use crate::root_places::RootPlaces;
 use cnf_base::CnfLit;
 use ketch_base::OutOfMemory;
 use lrat_text::Hints;
@@ -28,6 +29,7 @@ pub struct Analyzer {
     alloc: Global,
     marks: Vec<bool>,
     visits: Vec<Visit>,
+    places: RootPlaces,
 }
 
 impl Model for Analyzer {
@@ -49,11 +51,13 @@ impl Analyzer {
     {
         let marks = vec![in alloc; false; vars as usize + 1]?;
         let visits = vec![in alloc; Visit::Unknown; vars as usize + 1]?;
+        let places = RootPlaces::new(alloc, vars)?;
         Ok(Analyzer {
             vars,
             alloc,
             marks,
             visits,
+            places,
         })
     }
 
@@ -79,9 +83,11 @@ impl Analyzer {
             → HasId live id conflict.now → Follows live (map neg_ℤ learned.lits) learned.hints) }
     {
         premises.trail.is_well_formed();
+        self.places.note(&premises.trail);
         match resolve_conflict(
             self.alloc,
             premises,
+            &self.places,
             &mut self.marks,
             &mut self.visits,
             conflict,
@@ -115,7 +121,15 @@ impl Analyzer {
             → HasId live id conflict.now → Follows live [] hints) }
     {
         premises.trail.is_well_formed();
-        match refute_marked(self.alloc, premises, &mut self.marks, conflict, id as i64) {
+        self.places.note(&premises.trail);
+        match refute_marked(
+            self.alloc,
+            premises,
+            &self.places,
+            &mut self.marks,
+            conflict,
+            id as i64,
+        ) {
             Ok(hints) => Ok(hints),
             Err(OutOfMemory) => {
                 self.marks.fill(false);

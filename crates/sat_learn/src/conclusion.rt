@@ -111,8 +111,8 @@ pub fn conclude(
 {
     let Analysis {
         mut kept,
+        root_lits: _,
         hints,
-        rooted: _,
         open_count: _,
     } = analysis;
     sort_by_level(trail, &mut kept);

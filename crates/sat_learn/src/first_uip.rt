@@ -21,10 +21,10 @@ fn resolve_last(
     place: u32,
 ) -> Result<(), OutOfMemory>
     requires explained { AreExplained premises.now }
-    requires tracked { IsTracked premises.now.trail marks.old analysis.old.kept.items analysis.old.rooted analysis.old.open_count }
+    requires tracked { IsTracked premises.now.trail marks.old analysis.old.kept.items analysis.old.root_lits.items analysis.old.open_count }
     requires last { IsLastMarked premises.now.trail marks.old place }
     requires count { 1 < analysis.old.open_count }
-    ensures tracked { OnOk result (IsTracked premises.now.trail marks.new analysis.new.kept.items analysis.new.rooted analysis.new.open_count) }
+    ensures tracked { OnOk result (IsTracked premises.now.trail marks.new analysis.new.kept.items analysis.new.root_lits.items analysis.new.open_count) }
     ensures below { OnOk result (AreBelow premises.now.trail.assignments marks.new place) }
     ensures count { OnOk result (0 < analysis.new.open_count) }
     ensures resolves { OnOk result (ResolvesIn premises.now marks.old analysis.old.hints.items marks.new analysis.new.hints.items) }
@@ -46,10 +46,10 @@ pub fn resolve(
     met: &mut Vec<CnfLit>,
 ) -> Result<u32, OutOfMemory>
     requires explained { AreExplained premises.now }
-    requires tracked { IsTracked premises.now.trail marks.old analysis.old.kept.items analysis.old.rooted analysis.old.open_count }
+    requires tracked { IsTracked premises.now.trail marks.old analysis.old.kept.items analysis.old.root_lits.items analysis.old.open_count }
     requires count { 0 < analysis.old.open_count }
     requires none_met { met.old.items ≡ [] }
-    ensures tracked { OnOk result (IsTracked premises.now.trail marks.new analysis.new.kept.items analysis.new.rooted analysis.new.open_count) }
+    ensures tracked { OnOk result (IsTracked premises.now.trail marks.new analysis.new.kept.items analysis.new.root_lits.items analysis.new.open_count) }
     ensures last { IfOk result (IsLastMarked premises.now.trail marks.new) }
     ensures count { OnOk result (analysis.new.open_count ≡ 1) }
     ensures met { OnOk result (All (IsLiteral premises.now.trail.vars) met.new.items) }

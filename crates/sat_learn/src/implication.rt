@@ -26,7 +26,7 @@ pub struct Implication {
 }
 
 /// The place of a literal that is true.
-fn place_of(trail: &Trail, lit: CnfLit) -> u32
+pub fn place_of(trail: &Trail, lit: CnfLit) -> u32
     requires { IsTrue (has (lits trail.now.assignments) lit) }
     ensures { (p : Assignment) × StandsAt trail.now.assignments result p × (p.lit ≡ lit) }
 {

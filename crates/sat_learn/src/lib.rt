@@ -13,6 +13,8 @@ mod marks;
 mod minimize;
 mod premises;
 mod resolution;
+mod root_places;
+mod root_queue;
 mod roots;
 
 pub use analyzer::Analyzer;

@@ -33,10 +33,10 @@ fn resolve_earlier(
     lit: CnfLit,
 ) -> Result<(), OutOfMemory>
     requires explained { AreExplained premises.now }
-    requires tracked { IsTracked premises.now.trail marks.old analysis.old.kept.items analysis.old.rooted analysis.old.open_count }
+    requires tracked { IsTracked premises.now.trail marks.old analysis.old.kept.items analysis.old.root_lits.items analysis.old.open_count }
     requires false_now { IsTrue (has (lits premises.now.trail.assignments) (neg_ℤ lit)) }
     requires marked { IsTrue (is_marked marks.old lit) }
-    ensures tracked { OnOk result (IsTracked premises.now.trail marks.new analysis.new.kept.items analysis.new.rooted analysis.new.open_count) }
+    ensures tracked { OnOk result (IsTracked premises.now.trail marks.new analysis.new.kept.items analysis.new.root_lits.items analysis.new.open_count) }
     ensures count { OnOk result (analysis.new.open_count ≡ analysis.old.open_count) }
     ensures first_uip { OnOk result ((place : ℕ) → IsFirstUip premises.now.trail marks.old place → IsFirstUip premises.now.trail marks.new place) }
     ensures resolves { OnOk result (ResolvesIn premises.now marks.old analysis.old.hints.items marks.new analysis.new.hints.items) }
@@ -64,11 +64,11 @@ fn resolve_if_removable(
     lit: CnfLit,
 ) -> Result<(), OutOfMemory>
     requires explained { AreExplained premises.now }
-    requires tracked { IsTracked premises.now.trail marks.old analysis.old.kept.items analysis.old.rooted analysis.old.open_count }
+    requires tracked { IsTracked premises.now.trail marks.old analysis.old.kept.items analysis.old.root_lits.items analysis.old.open_count }
     requires room { length visits.old ≡ premises.now.trail.vars + 1 }
     requires false_now { IsTrue (has (lits premises.now.trail.assignments) (neg_ℤ lit)) }
     ensures visits { visits.new ≡ slice_set visits.old (nat_abs lit) Visit.Unknown }
-    ensures tracked { OnOk result (IsTracked premises.now.trail marks.new analysis.new.kept.items analysis.new.rooted analysis.new.open_count) }
+    ensures tracked { OnOk result (IsTracked premises.now.trail marks.new analysis.new.kept.items analysis.new.root_lits.items analysis.new.open_count) }
     ensures count { OnOk result (analysis.new.open_count ≡ analysis.old.open_count) }
     ensures first_uip { OnOk result ((place : ℕ) → IsFirstUip premises.now.trail marks.old place → IsFirstUip premises.now.trail marks.new place) }
     ensures resolves { OnOk result (ResolvesIn premises.now marks.old analysis.old.hints.items marks.new analysis.new.hints.items) }
@@ -98,12 +98,12 @@ fn resolve_visited(
     visited: &[CnfLit],
 ) -> Result<(), OutOfMemory>
     requires explained { AreExplained premises.now }
-    requires tracked { IsTracked premises.now.trail marks.old analysis.old.kept.items analysis.old.rooted analysis.old.open_count }
+    requires tracked { IsTracked premises.now.trail marks.old analysis.old.kept.items analysis.old.root_lits.items analysis.old.open_count }
     requires room { length visits.old ≡ premises.now.trail.vars + 1 }
     requires visits { AreVisitsOf visited.now visits.old }
     requires false_now { (l : ℤ) → IsTrue (has visited.now l) → IsTrue (has (lits premises.now.trail.assignments) (neg_ℤ l)) }
     ensures unvisited { OnOk result (NoneVisited visits.new) }
-    ensures tracked { OnOk result (IsTracked premises.now.trail marks.new analysis.new.kept.items analysis.new.rooted analysis.new.open_count) }
+    ensures tracked { OnOk result (IsTracked premises.now.trail marks.new analysis.new.kept.items analysis.new.root_lits.items analysis.new.open_count) }
     ensures count { OnOk result (analysis.new.open_count ≡ analysis.old.open_count) }
     ensures first_uip { OnOk result ((place : ℕ) → IsFirstUip premises.now.trail marks.old place → IsFirstUip premises.now.trail marks.new place) }
     ensures resolves { OnOk result (ResolvesIn premises.now marks.old analysis.old.hints.items marks.new analysis.new.hints.items) }
@@ -240,11 +240,11 @@ pub fn minimize_clause(
     analysis: &mut Analysis,
 ) -> Result<(), OutOfMemory>
     requires explained { AreExplained premises.now }
-    requires tracked { IsTracked premises.now.trail marks.old analysis.old.kept.items analysis.old.rooted analysis.old.open_count }
+    requires tracked { IsTracked premises.now.trail marks.old analysis.old.kept.items analysis.old.root_lits.items analysis.old.open_count }
     requires room { length visits.old ≡ premises.now.trail.vars + 1 }
     requires unvisited { NoneVisited visits.old }
     ensures unvisited { OnOk result (NoneVisited visits.new) }
-    ensures tracked { OnOk result (IsTracked premises.now.trail marks.new analysis.new.kept.items analysis.new.rooted analysis.new.open_count) }
+    ensures tracked { OnOk result (IsTracked premises.now.trail marks.new analysis.new.kept.items analysis.new.root_lits.items analysis.new.open_count) }
     ensures count { OnOk result (analysis.new.open_count ≡ analysis.old.open_count) }
     ensures first_uip { OnOk result ((place : ℕ) → IsFirstUip premises.now.trail marks.old place → IsFirstUip premises.now.trail marks.new place) }
     ensures resolves { OnOk result (ResolvesIn premises.now marks.old analysis.old.hints.items marks.new analysis.new.hints.items) }

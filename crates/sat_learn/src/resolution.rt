@@ -17,32 +17,37 @@ use crate::learned_clause::{LearnedClause, in_order};
 use crate::marks::mark_all;
 use crate::minimize::{Visit, minimize_clause};
 use crate::premises::Premises;
+use crate::root_places::RootPlaces;
 use crate::roots::resolve_roots;
 use cnf_base::CnfLit;
 use ketch_base::OutOfMemory;
 use lrat_text::Hints;
 use std::alloc::Global;
 
-/// Resolves the literals of level 0, if one is marked: their places, from the last to the first.
+/// Resolves the literals of level 0 that are marked: their places, from the last to the first.
 fn resolve_any_roots(
     alloc: Global,
     premises: &Premises,
+    places: &RootPlaces,
     marks: &mut [bool],
     analysis: &mut Analysis,
 ) -> Result<Vec<u32>, OutOfMemory>
     requires explained { AreExplained premises.now }
     requires above { 0 < premises.now.trail.level }
-    requires tracked { IsTracked premises.now.trail marks.old analysis.old.kept.items analysis.old.rooted analysis.old.open_count }
+    requires tracked { IsTracked premises.now.trail marks.old analysis.old.kept.items analysis.old.root_lits.items analysis.old.open_count }
     ensures clear { OnOk result (AreRootsClear premises.now.trail.assignments marks.new 0) }
     ensures others { OnOk result (DifferAtRoots premises.now.trail.assignments marks.old marks.new) }
     ensures kept { analysis.new.kept ≡ analysis.old.kept }
     ensures resolves { OnOk result (ResolvesIn premises.now marks.old analysis.old.hints.items marks.new analysis.new.hints.items) }
     ensures roots { IfOk result (λ roots. AreAtRoot premises.now.trail.assignments roots.items) }
 {
-    if !analysis.rooted {
-        return Ok(Vec::new(alloc));
-    }
-    let roots = resolve_roots(alloc, premises, marks, &mut analysis.hints)?;
+    let Analysis {
+        kept: _,
+        root_lits,
+        hints,
+        open_count: _,
+    } = analysis;
+    let roots = resolve_roots(alloc, premises, places, marks, hints, root_lits)?;
     Ok(roots)
 }
 
@@ -50,6 +55,7 @@ fn resolve_any_roots(
 pub fn resolve_conflict(
     alloc: Global,
     premises: &Premises,
+    places: &RootPlaces,
     marks: &mut [bool],
     visits: &mut [Visit],
     conflict: &[CnfLit],
@@ -75,7 +81,7 @@ pub fn resolve_conflict(
     let mut met = Vec::new(alloc);
     let place = resolve(premises, marks, &mut analysis, &mut met)?;
     minimize_clause(alloc, premises, marks, visits, &mut analysis)?;
-    let roots = resolve_any_roots(alloc, premises, marks, &mut analysis)?;
+    let roots = resolve_any_roots(alloc, premises, places, marks, &mut analysis)?;
     let learned = conclude(alloc, &premises.trail, marks, analysis, roots, met, place)?;
     Ok(learned)
 }
@@ -84,6 +90,7 @@ pub fn resolve_conflict(
 pub fn refute_marked(
     alloc: Global,
     premises: &Premises,
+    places: &RootPlaces,
     marks: &mut [bool],
     conflict: &[CnfLit],
     hint: i64,
@@ -100,6 +107,6 @@ pub fn refute_marked(
     let mut hints = Vec::new(alloc);
     hints.push(hint)?;
     mark_all(marks, conflict);
-    resolve_roots(alloc, premises, marks, &mut hints)?;
+    resolve_roots(alloc, premises, places, marks, &mut hints, conflict)?;
     Ok(in_order(hints))
 }

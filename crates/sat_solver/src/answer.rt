@@ -11,3 +11,11 @@ pub enum Answer {
     Unsat(Proof),
     Spent(Proof),
 }
+
+/// An answer, and how many conflicts the search learned from. The other lemmas of a proof are literals of level 0, into
+/// which no search went.
+#[derive(Debug, Drop)]
+pub struct Counted {
+    pub answer: Answer,
+    pub conflicts: usize,
+}

@@ -19,7 +19,7 @@ mod solver;
 mod step;
 
 pub use analysis::proof_id_of;
-pub use answer::Answer;
+pub use answer::{Answer, Counted};
 pub use backjump::{attach, bump};
 pub use decision::next_variable;
 pub use gathered::Gathered;
@@ -29,4 +29,4 @@ pub use phases::Phases;
 pub use ranks::Ranks;
 pub use restart::{Restarts, count_levels};
 pub use search::no_premises;
-pub use solver::solve;
+pub use solver::{solve, solve_counting};

@@ -1,11 +1,11 @@
-//! The call.
+//! The calls.
 
 ghost use Rattle.std.specs.Prelude.{◌≡◌, ℤ, List, ◌<◌, ◌≤◌, ◌^◌, length, IfOk};
 ghost use Rattle.sat_solver.specs.Answer.{IsAnswer};
 ghost use Rattle.sat_solver.specs.Steps.{IsSearchState, OutcomeIs};
 
 use crate::analysis::proof_id_of;
-use crate::answer::Answer;
+use crate::answer::{Answer, Counted};
 use crate::input_clauses::load;
 use crate::model::values;
 use crate::refutation::conclude;
@@ -64,6 +64,30 @@ fn answer(
     }
 }
 
+/// Decides a formula, or spends a budget of lemmas on it, and counts the conflicts.
+pub fn solve_counting(alloc: Global, formula: &Formula, lemmas: u64) -> Result<Counted, OutOfMemory>
+    requires some { 1 ≤ lemmas }
+    requires few { lemmas ≤ 2 ^ 60 }
+    requires few_clauses { length formula.now.clauses < 2 ^ 60 }
+    ensures answer { IfOk result (λ counted. IsAnswer formula.now lemmas counted.answer) }
+    ensures conflicts { IfOk result (λ counted. counted.conflicts ≤ lemmas) }
+{
+    let mut search = Search::new(alloc, formula.vars())?;
+    let refuted = load(alloc, formula, &mut search.premises)?;
+    if let Some(index) = refuted {
+        let clause = formula.clauses().get(index);
+        let proof = conclude(alloc, formula, search, clause.as_slice(), index as u64 + 1)?;
+        return Ok(Counted {
+            answer: Answer::Unsat(proof),
+            conflicts: 0,
+        });
+    }
+    let outcome = take_steps(alloc, formula, &mut search, lemmas)?;
+    let conflicts = search.conflicts;
+    let answer = answer(alloc, formula, search, lemmas, outcome)?;
+    Ok(Counted { answer, conflicts })
+}
+
 /// Decides a formula, or spends a budget of lemmas on it.
 pub fn solve(alloc: Global, formula: &Formula, lemmas: u64) -> Result<Answer, OutOfMemory>
     requires some { 1 ≤ lemmas }
@@ -71,14 +95,6 @@ pub fn solve(alloc: Global, formula: &Formula, lemmas: u64) -> Result<Answer, Ou
     requires few_clauses { length formula.now.clauses < 2 ^ 60 }
     ensures { IfOk result (IsAnswer formula.now lemmas) }
 {
-    let mut search = Search::new(alloc, formula.vars())?;
-    let refuted = load(alloc, formula, &mut search.premises)?;
-    if let Some(index) = refuted {
-        let clause = formula.clauses().get(index);
-        let proof = conclude(alloc, formula, search, clause.as_slice(), index as u64 + 1)?;
-        return Ok(Answer::Unsat(proof));
-    }
-    let outcome = take_steps(alloc, formula, &mut search, lemmas)?;
-    let answer = answer(alloc, formula, search, lemmas, outcome)?;
-    Ok(answer)
+    let counted = solve_counting(alloc, formula, lemmas)?;
+    Ok(counted.answer)
 }

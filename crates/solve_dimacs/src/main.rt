@@ -11,7 +11,7 @@ use crate::stop::Stop;
 use crate::tally::{hints, lemmas};
 use crate::writing::text;
 use run_io::{HostDesk, HostSink, write_all};
-use sat_solver::Answer;
+use sat_solver::{Answer, Counted};
 use std::env;
 use std::process::ExitCode;
 
@@ -24,17 +24,23 @@ fn words(rt: &HostRuntime) -> Result<Vec<Vec<u8>>, Stop> {
     Ok(words)
 }
 
-/// Says on the error stream which answer it is and what its proof has, as far as the stream takes it: the exit status.
-fn report(rt: &HostRuntime, answer: &Answer) -> u8 {
-    let (name, proof, status) = match answer {
+/// Says on the error stream which answer it is, what it took and what its proof has, as far as the stream takes it: the exit
+/// status.
+fn report(rt: &HostRuntime, counted: &Counted) -> u8 {
+    let conflicts = counted.conflicts;
+    let (name, proof, status) = match &counted.answer {
         Answer::Sat(_) => {
-            let _ = eprintln!(rt; "sat");
+            let _ = eprintln!(rt; "sat conflicts={conflicts}");
             return 10;
         }
         Answer::Unsat(proof) => ("unsat", proof, 20),
         Answer::Spent(proof) => ("spent", proof, 30),
     };
-    let _ = eprintln!(rt; "{name} lemmas={} hints={}", lemmas(proof), hints(proof));
+    let _ = eprintln!(rt;
+        "{name} conflicts={conflicts} lemmas={} hints={}",
+        lemmas(proof),
+        hints(proof)
+    );
     status
 }
 
@@ -45,10 +51,10 @@ fn run(rt: &HostRuntime) -> Result<u8, Stop> {
         return Err(Stop::Usage);
     };
     let lemmas = budget(lemmas)?;
-    let answer = solved(rt.alloc(), &mut HostDesk::new(rt), formula, lemmas)?;
-    let text = text(rt.alloc(), &answer)?;
+    let counted = solved(rt.alloc(), &mut HostDesk::new(rt), formula, lemmas)?;
+    let text = text(rt.alloc(), &counted.answer)?;
     write_all(&mut HostSink::new(rt.stdout()), &text)?;
-    Ok(report(rt, &answer))
+    Ok(report(rt, &counted))
 }
 
 fn main(rt: HostRuntime) -> ExitCode {

@@ -8,7 +8,7 @@ ghost use Rattle.solve_dimacs.specs.Words.{IsBudget};
 use crate::stop::Stop;
 use cnf_base::read_dimacs;
 use run_io::{Desk, read_file};
-use sat_solver::{Answer, solve};
+use sat_solver::{Counted, solve_counting};
 use std::alloc::Global;
 use text_words::{lines_at_most_bytes, natural};
 
@@ -32,15 +32,16 @@ pub fn solved<D: Desk>(
     desk: &mut D,
     name: &[u8],
     lemmas: u64,
-) -> Result<Answer, Stop>
+) -> Result<Counted, Stop>
     requires some { 1 ≤ lemmas }
     requires few { lemmas ≤ 2 ^ 60 }
-    ensures answer { IfOk result (λ answer. IfSome ((D.state desk.old).text name.now) (λ text. IsAnswerTo text lemmas answer)) }
+    ensures answer { IfOk result (λ counted. IfSome ((D.state desk.old).text name.now) (λ text. IsAnswerTo text lemmas counted.answer)) }
+    ensures conflicts { IfOk result (λ counted. counted.conflicts ≤ lemmas) }
     ensures none { IfErr result IsWithoutAnswer }
 {
     let bytes = read_file(alloc, desk, name, LIMIT)?;
     lines_at_most_bytes(&bytes);
     let formula = read_dimacs(alloc, &bytes)?;
-    let answer = solve(alloc, &formula, lemmas)?;
-    Ok(answer)
+    let counted = solve_counting(alloc, &formula, lemmas)?;
+    Ok(counted)
 }

@@ -5,7 +5,7 @@ use aig_model::Bits;
 use cnf_base::Formula;
 use lrat_check::{check_proof, check_spent};
 use lrat_text::{LratStep, Proof};
-use sat_solver::{Answer, solve};
+use sat_solver::{Answer, solve, solve_counting};
 use std::alloc::Global;
 use std::process::Abort;
 use std::test::Fail;
@@ -124,4 +124,18 @@ pub fn verdict_of(
     lemmas: u64,
 ) -> Result<Verdict, Fail> {
     Ok(outcome_of(rt, alloc, formula, lemmas)?.verdict)
+}
+
+/// How many conflicts an answer takes.
+pub fn conflicts_of(
+    rt: &impl Abort,
+    alloc: Global,
+    formula: &Formula,
+    lemmas: u64,
+) -> Result<usize, Fail> {
+    assert!(rt; 1 <= lemmas);
+    assert!(rt; lemmas <= MOST);
+    assert!(rt; (formula.clauses().len() as u64) < MOST);
+    let counted = solve_counting(alloc, formula, lemmas)?;
+    Ok(counted.conflicts)
 }

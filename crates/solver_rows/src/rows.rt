@@ -1,7 +1,7 @@
 //! Small formulas whose answers can be seen.
 
 use crate::formulas::formula_of;
-use crate::judging::{Outcome, Verdict, outcome_of, verdict_of};
+use crate::judging::{Outcome, Verdict, conflicts_of, outcome_of, verdict_of};
 use std::test::Fail;
 
 /// Three of six are true, of which no two may be.
@@ -57,6 +57,14 @@ const ROWS: &[(u32, &[&[i32]], u64, Verdict)] = &[
     (64, &[&[64, 63], &[-64]], 1, Verdict::Sat),
 ];
 
+/// Formulas of two variables, and how many conflicts they take whatever is decided: one where each decision forces one.
+const CONFLICTS: &[(&[&[i32]], usize)] = &[
+    (&[], 0),
+    (&[&[1], &[-1]], 0),
+    (&[&[1], &[-1, 2], &[-2]], 0),
+    (&[&[1, 2], &[1, -2], &[-1, 2], &[-1, -2]], 1),
+];
+
 #[test]
 fn small_formulas(rt: HostRuntime) -> Result<(), Fail> {
     for (vars, clauses, lemmas, verdict) in ROWS {
@@ -99,5 +107,15 @@ fn forced_value(rt: HostRuntime) -> Result<(), Fail> {
     let formula = formula_of(&rt, rt.alloc(), 2, &[&[1, -1], &[2]])?;
     let outcome = outcome_of(&rt, rt.alloc(), &formula, 9)?;
     assert_eq!(rt; outcome.values & 2, 2);
+    Ok(())
+}
+
+#[test]
+fn conflicts_are_counted(rt: HostRuntime) -> Result<(), Fail> {
+    for (clauses, conflicts) in CONFLICTS {
+        let formula = formula_of(&rt, rt.alloc(), 2, clauses)?;
+        let counted = conflicts_of(&rt, rt.alloc(), &formula, 9)?;
+        assert!(rt; counted == *conflicts);
+    }
     Ok(())
 }

@@ -8,7 +8,7 @@ use Rattle.sat_learn.proofs.analysis.note_all.Given as goal
 abbrev pub invariant-loop-lit : goal.invariant-loop-lit
 invariant-loop-lit l =
     record {
-      tracked : IsTracked l.trail l.marks l.analysis.kept.items l.analysis.rooted l.analysis.open_count;
+      tracked : IsTracked l.trail l.marks l.analysis.kept.items l.analysis.root_lits.items l.analysis.open_count;
       marked : (v : ℕ) → get_or l.marks v false ≡ with_marks (take l.lit-index l.clause) l.initial.marks v;
       hints : l.analysis.hints ≡ l.initial.analysis.hints;
       count : l.initial.analysis.open_count ≤ l.analysis.open_count;

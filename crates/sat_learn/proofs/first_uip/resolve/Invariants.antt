@@ -10,7 +10,7 @@ use Rattle.sat_learn.proofs.first_uip.resolve.Given as goal
 abbrev pub invariant-loop-analysis : goal.invariant-loop-analysis
 invariant-loop-analysis l =
     record {
-      tracked : IsTracked l.premises.trail l.marks l.analysis.kept.items l.analysis.rooted l.analysis.open_count;
+      tracked : IsTracked l.premises.trail l.marks l.analysis.kept.items l.analysis.root_lits.items l.analysis.open_count;
       last : IsLastMarked l.premises.trail l.marks l.at;
       count : 0 < l.analysis.open_count;
       met : All (IsLiteral l.premises.trail.vars) l.met.items;

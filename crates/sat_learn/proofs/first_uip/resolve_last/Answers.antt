@@ -61,8 +61,8 @@ returns-clause-tracked c =
     let mid = c.note_all.new.marks in
     let after = c.note_all.new.analysis in
     let marked : is_marked mid last.assignment.lit ≡ true = known.noted (nat_abs last.assignment.lit) ∙ or_left (get_or c.args.marks.now (nat_abs last.assignment.lit) false) (list_any (eqb (nat_abs last.assignment.lit)) (map nat_abs c.antecedent_of-found.result.lits.now)) last.marked in
-    let P : ℕ → Type 0 = λ v. IsTracked t (set mid v false) after.kept.items after.rooted (after.open_count - 1) in
-    subst P (sym known.of_var) (track_unmark t mid after.kept.items after.rooted after.open_count c.args.place last.assignment known.trail c.in_ok-note_all.ensures.tracked last.stands last.at_level marked known.room)
+    let P : ℕ → Type 0 = λ v. IsTracked t (set mid v false) after.kept.items after.root_lits.items (after.open_count - 1) in
+    subst P (sym known.of_var) (track_unmark t mid after.kept.items after.root_lits.items after.open_count c.args.place last.assignment known.trail c.in_ok-note_all.ensures.tracked last.stands last.at_level marked known.room)
 
 pub returns-clause-below : goal.returns-clause-below
 returns-clause-below c =

@@ -1,4 +1,4 @@
-use Rattle.std.proofs.Common.{◌≡◌, ℕ, ◌+◌, ◌-◌, ◌<◌, ◌≤◌, true, ℤ, List, length, take, ap, sym, ◌∙◌, subst, arith}
+use Rattle.std.proofs.Common.{◌≡◌, ℕ, ◌+◌, ◌-◌, ◌<◌, true, List, length, take, sym, ◌∙◌, subst, arith}
 use Rattle.std.specs.Ordering.{int_eq}
 use Rattle.std.proofs.lemmas.Bool.{both_ways}
 use Rattle.std.proofs.lemmas.Bool.Decides.{Decides-int_eq}
@@ -6,7 +6,7 @@ use Rattle.std.proofs.lemmas.List.{take_all}
 use Rattle.cnf_base.specs.Status.{has}
 use Rattle.sat_trail.specs.Trail.{Assignment, lits}
 use Rattle.sat_learn.proofs.Antecedents.{lit_at}
-use Rattle.sat_learn.proofs.Assignments.{assignment_at, true_before}
+use Rattle.sat_learn.proofs.Assignments.{assignment_at}
 use Rattle.sat_learn.proofs.Implications.{before_place}
 use Rattle.sat_learn.proofs.implication.place_of.Goals as goal
 

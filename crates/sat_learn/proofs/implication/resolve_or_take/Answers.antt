@@ -1,10 +1,9 @@
-use Rattle.std.proofs.Common.{◌≡◌, ℕ, ◌<◌, false, ℤ, neg_ℤ, nat_abs, List, [], ◌∷◌, ◌++◌, length, set, get_or, ap, sym, ◌∙◌, subst, arith, rules}
+use Rattle.std.proofs.Common.{◌≡◌, ℕ, ◌<◌, false, ℤ, neg_ℤ, nat_abs, [], ◌∷◌, ◌++◌, length, set, get_or, ap, sym, ◌∙◌, subst, arith, rules}
 use mir.Val.{SFits}
 use mir.Syntax.{w64}
 use Rattle.std.proofs.lemmas.Int.{to_z-of_z}
-use Rattle.sat_trail.specs.Trail.{Assignment}
 use Rattle.sat_learn.specs.Premises.{IsTracedIn}
-use Rattle.sat_learn.specs.Resolving.{is_marked, StandsAt}
+use Rattle.sat_learn.specs.Resolving.{is_marked}
 use Rattle.sat_learn.proofs.Antecedents.{lit_at}
 use Rattle.sat_learn.proofs.Assignments.{assignment_at}
 use Rattle.sat_learn.proofs.MarkedLiterals.{literal_at}

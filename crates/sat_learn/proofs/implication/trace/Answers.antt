@@ -1,4 +1,4 @@
-use Rattle.std.proofs.Common.{◌≡◌, ℕ, ◌+◌, ◌-◌, ◌<◌, ◌≤◌, true, false, eqb, ℤ, neg_ℤ, nat_abs, List, [], ◌∷◌, ◌++◌, length, set, get_or, map, reverse, ap, sym, ◌∙◌, subst, arith, rules}
+use Rattle.std.proofs.Common.{◌≡◌, ℕ, ◌+◌, ◌-◌, ◌<◌, true, false, eqb, ℤ, neg_ℤ, nat_abs, List, [], ◌∷◌, ◌++◌, length, set, get_or, map, ap, sym, ◌∙◌, subst, arith, rules}
 use mir.Val.{SFits, to_z, of_z}
 use mir.Syntax.{w64}
 use Rattle.std.proofs.lemmas.Int.{to_z-of_z}
@@ -11,7 +11,7 @@ use Rattle.cnf_base.specs.Status.{has}
 use Rattle.sat_trail.specs.Trail.{Assignment, lits}
 use Rattle.sat_learn.specs.Reasons.{Follows}
 use Rattle.sat_learn.specs.Premises.{IsTracedIn}
-use Rattle.sat_learn.specs.Resolving.{is_marked, StandsAt, IsForcedAt}
+use Rattle.sat_learn.specs.Resolving.{is_marked}
 use Rattle.sat_learn.proofs.Assignments.{true_there, true_literal, one_assignment}
 use Rattle.sat_learn.proofs.ResolveStep.{any_from, antecedent_in_range}
 use Rattle.sat_learn.proofs.Implications.{traced_first, traced_follows}

@@ -3,9 +3,8 @@ use Rattle.cnf_base.proofs.Literals.{nat_abs-neg_ℤ}
 use Rattle.cnf_base.specs.Status.{has}
 use Rattle.sat_trail.specs.Trail.{lits}
 use Rattle.sat_learn.proofs.Assignments.{true_literal}
-use Rattle.sat_learn.proofs.MarkedLiterals.{has_at}
+use Rattle.sat_learn.proofs.MarkedLiterals.{has_at, false_push}
 use Rattle.sat_learn.proofs.ResolveStep.{antecedent_false}
-use Rattle.sat_learn.proofs.Minimization.{false_push}
 use Rattle.sat_learn.proofs.minimize.+walk.Goals as goal
 use Rattle.sat_learn.proofs.minimize.+walk.Goals.{else-loop-other-test, then-loop-other-test+then-var+in_ok-goes+then-not-goes}
 

@@ -53,8 +53,8 @@ returns-in_ok-note_all-in-Some-clause-tracked c =
     let known = step c in
     let mid = c.note_all.new.marks in
     let after = c.note_all.new.analysis in
-    let P : ℕ → Type 0 = λ v. IsTracked t (set mid v false) after.kept.items after.rooted after.open_count in
-    subst P (sym known.whole.of_var) (track_unmark_earlier t mid after.kept.items after.rooted after.open_count at.place at.assignment known.whole.trail c.in_ok-note_all-in-Some.ensures.tracked at.stands known.below known.whole.room)
+    let P : ℕ → Type 0 = λ v. IsTracked t (set mid v false) after.kept.items after.root_lits.items after.open_count in
+    subst P (sym known.whole.of_var) (track_unmark_earlier t mid after.kept.items after.root_lits.items after.open_count at.place at.assignment known.whole.trail c.in_ok-note_all-in-Some.ensures.tracked at.stands known.below known.whole.room)
 
 pub returns-in_ok-note_all-in-Some-clause-count : goal.returns-in_ok-note_all-in-Some-clause-count
 returns-in_ok-note_all-in-Some-clause-count c =

@@ -10,7 +10,7 @@ invariant-loop-index l =
     record {
       within : l.index ≤ length l.visited;
       visits : AreVisitsOf (take l.index l.visited) l.visits;
-      tracked : IsTracked l.premises.trail l.marks l.analysis.kept.items l.analysis.rooted l.analysis.open_count;
+      tracked : IsTracked l.premises.trail l.marks l.analysis.kept.items l.analysis.root_lits.items l.analysis.open_count;
       count : l.analysis.open_count ≡ l.initial.analysis.open_count;
       first_uip : (place : ℕ) → IsFirstUip l.premises.trail l.initial.marks place → IsFirstUip l.premises.trail l.marks place;
       resolves : ResolvesIn l.premises l.initial.marks l.initial.analysis.hints.items l.marks l.analysis.hints.items;

@@ -2,11 +2,14 @@ use Rattle.std.proofs.Common.{◌≡◌, [], ◌∷◌, ◌++◌, List, ℤ, rev
 use mir.Syntax.{w64}
 use Rattle.std.proofs.lemmas.Int.{to_z-of_z}
 use Rattle.sat_learn.specs.Reasons.{Follows}
-use Rattle.sat_learn.proofs.Conflicts.{conflict_in_range, conflict_marked, none_marked_at_root, conflict_refutes, refutes_nothing}
+use Rattle.sat_learn.proofs.Conflicts.{conflict_in_range, conflict_marked, conflict_among, none_marked_at_root, conflict_refutes, refutes_nothing}
 use Rattle.sat_learn.proofs.resolution.refute_marked.Goals as goal
 
 pub mark_all-requires : goal.mark_all-requires
 mark_all-requires c = conflict_in_range c.args.premises.now.trail c.args.marks.now c.args.conflict.now c.requires.explained.trail c.requires.room c.requires.false_now
+
+pub resolve_roots-requires-clause-met : goal.resolve_roots-requires-clause-met
+resolve_roots-requires-clause-met c = conflict_among c.args.premises.now.trail c.args.marks.now c.mark_all.new.marks c.args.conflict.now c.requires.unmarked c.mark_all.ensures c.requires.false_now
 
 pub returns-clause-unmarked : goal.returns-clause-unmarked
 returns-clause-unmarked c = none_marked_at_root c.args.premises.now.trail c.args.marks.now c.mark_all.new.marks c.resolve_roots.new.marks c.args.conflict.now c.requires.explained.trail c.requires.at_root c.requires.unmarked c.mark_all.ensures c.requires.false_now c.in_ok-resolve_roots.ensures.clear c.in_ok-resolve_roots.ensures.others

@@ -10,13 +10,13 @@ pub note_all-requires-clause-tracked : goal.note_all-requires-clause-tracked
 note_all-requires-clause-tracked c =
     let begun = c.new_analysis-analysis.ensures in
     let a = c.new_analysis-analysis.result in
-    track_begun c.args.premises.now.trail c.args.marks.now a.kept.items a.rooted a.open_count begun.kept begun.rooted begun.count c.requires.above c.requires.room c.requires.unmarked
+    track_begun c.args.premises.now.trail c.args.marks.now a.kept.items a.root_lits.items a.open_count begun.kept begun.root_lits begun.count c.requires.above c.requires.room c.requires.unmarked
 
 pub resolve-requires-clause-count : goal.resolve-requires-clause-count
 resolve-requires-clause-count c =
     let a = c.note_all.new.analysis in
     let marked = conflict_marked c.args.marks.now c.note_all.new.marks c.args.conflict.now c.in_ok-note_all.ensures.marks in
-    conflict_open c.args.premises.now.trail c.note_all.new.marks a.kept.items a.rooted a.open_count c.args.conflict.now c.requires.explained.trail c.in_ok-note_all.ensures.tracked marked c.requires.false_now c.requires.not_before
+    conflict_open c.args.premises.now.trail c.note_all.new.marks a.kept.items a.root_lits.items a.open_count c.args.conflict.now c.requires.explained.trail c.in_ok-note_all.ensures.tracked marked c.requires.false_now c.requires.not_before
 
 pub conclude-requires-clause-minimized : goal.conclude-requires-clause-minimized
 conclude-requires-clause-minimized c =
@@ -29,7 +29,7 @@ conclude-requires-clause-minimized c =
     let room : length after ≡ t.vars + 1 = omega (arith, c.requires.room, c.note_all.auto.marks, c.resolve.auto.marks, c.minimize_clause.auto.marks, c.resolve_any_roots.auto.marks) in
     let P : List ℤ → Type 0 = λ ls. IsMinimized t after ls place in
     subst P (ap (λ v. v.items) (sym c.in_ok-roots.ensures.kept))
-    (minimized_from t c.minimize_clause.new.marks after a.kept.items a.rooted a.open_count place c.requires.explained.trail c.in_ok-minimize_clause.ensures.tracked (c.in_ok-minimize_clause.ensures.count ∙ c.in_ok-place.ensures.count) (c.in_ok-minimize_clause.ensures.first_uip place first_uip) c.in_ok-roots.ensures.clear c.in_ok-roots.ensures.others room)
+    (minimized_from t c.minimize_clause.new.marks after a.kept.items a.root_lits.items a.open_count place c.requires.explained.trail c.in_ok-minimize_clause.ensures.tracked (c.in_ok-minimize_clause.ensures.count ∙ c.in_ok-place.ensures.count) (c.in_ok-minimize_clause.ensures.first_uip place first_uip) c.in_ok-roots.ensures.clear c.in_ok-roots.ensures.others room)
 
 pub returns-clause-follows : goal.returns-clause-follows
 returns-clause-follows c live id hint_is has_id conflict_with_id =

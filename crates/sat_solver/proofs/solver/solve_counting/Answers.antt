@@ -1,4 +1,4 @@
-use Rattle.std.proofs.Common.{◌≡◌, ℕ, ◌+◌, ℤ, Option, List, length, take, get_or, ap, sym, ◌∙◌, subst}
+use Rattle.std.proofs.Common.{◌≡◌, ℕ, ◌+◌, ◌≤◌, ℤ, Option, List, length, take, get_or, ap, sym, ◌∙◌, subst, arith}
 use Rattle.std.specs.Option.{MatchOption}
 use Rattle.std.proofs.lemmas.Option.{get_or_from_slice_get}
 use Rattle.cnf_base.specs.Status.{IsFalsifiedIn}
@@ -8,11 +8,20 @@ use Rattle.sat_trail.specs.Trail.{TrailState, lits}
 use Rattle.sat_watch.specs.Book.{BookState}
 use Rattle.sat_learn.specs.Reasons.{HasId}
 use Rattle.sat_solver.specs.declared.search.Search.{Search}
+use Rattle.sat_solver.specs.declared.step.Outcome.{Outcome}
+use Rattle.sat_solver.specs.declared.step.Outcome.TheVariants.{Satisfied, Refuted, Spent}
+use Rattle.sat_solver.specs.Steps.{OutcomeIs}
 use Rattle.sat_solver.specs.Ledger.{live}
 use Rattle.sat_solver.specs.InputClauses.{IsLoaded, IsFalsifiedAt}
 use Rattle.sat_solver.proofs.Start.{begun, first_turn}
 use Rattle.sat_solver.proofs.States.{loaded_sound, refuted_with_id}
-use Rattle.sat_solver.proofs.solver.solve.Goals as goal
+use Rattle.sat_solver.proofs.solver.solve_counting.Goals as goal
+
+-- a search learned from no more conflicts than its budget has lemmas, however it ended
+few_conflicts : (formula : CnfFormula) (lemmas : ℕ) (s : Search) (outcome : Outcome) → OutcomeIs formula lemmas s outcome → s.conflicts ≤ lemmas
+few_conflicts formula lemmas s Satisfied h = let few = h.0.search.few_conflicts in let within = h.0.within in omega arith
+few_conflicts formula lemmas s (Refuted id) h = let few = h.0.search.few_conflicts in let within = h.0.within in omega arith
+few_conflicts formula lemmas s Spent h = let few = h.0.search.few_conflicts in let within = h.0.within in omega arith
 
 -- what loading leaves
 abbrev Loads : CnfFormula → List ℕ → BookState → TrailState → Option ℕ → Type 0
@@ -60,3 +69,6 @@ take_steps-requires c =
     let e = c.in_ok-search.ensures in
     let loaded = subst (Loads formula s.premises.proof_ids.items s.premises.book s.premises.trail) c.in_default.is c.in_ok-refuted.ensures in
     first_turn formula c.args.lemmas s c.vars.result c.requires.few_clauses c.requires.few c.vars.ensures.value e.steps e.queue e.ranks e.from e.phases e.analyzer e.considered e.conflicts loaded
+
+pub returns-clause-conflicts : goal.returns-clause-conflicts
+returns-clause-conflicts c = few_conflicts c.args.formula.now c.args.lemmas c.take_steps.new.search c.in_ok-outcome.outcome c.in_ok-outcome.ensures
