@@ -57,4 +57,12 @@ impl Certificate {
     {
         &self.excludes
     }
+
+    /// The proof alone.
+    pub fn into_excludes(self) -> Proof
+        ensures { result ≡ self.excludes }
+    {
+        let Certificate { base: _, excludes } = self;
+        excludes
+    }
 }

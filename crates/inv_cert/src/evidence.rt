@@ -24,7 +24,7 @@ use unroll::excludes_formula;
 
 /// A run that shows the goal, or clauses that exclude it.
 #[derive(Drop)]
-pub(crate) enum Basis {
+pub enum Basis {
     Run(Trace),
     Clauses(Certificate),
 }
@@ -81,6 +81,18 @@ impl Evidence {
         })
     }
 
+    /// Of a trace that is known to show the goal. It isn't replayed again, and this takes no memory.
+    pub fn of_shown(signals: &Signals, goal: u32, trace: Trace) -> Evidence
+        requires { Shows signals.now.circuit signals.now.lits trace goal }
+        ensures { result ≡ record { signals = signals.now; goal = goal; basis = Run trace } }
+    {
+        Evidence {
+            goal,
+            basis: Basis::Run(trace),
+            signals: Snapshot::of(signals),
+        }
+    }
+
     pub fn from_cert(
         alloc: Global,
         circuit: &Circuit,
@@ -110,6 +122,30 @@ impl Evidence {
         })
     }
 
+    /// Of a certificate whose proof for the goal is known to be accepted. It isn't checked again, and this takes no
+    /// memory.
+    pub fn of_accepted(
+        circuit: &Circuit,
+        signals: &Signals,
+        goal: u32,
+        cert: Certificate,
+    ) -> Evidence
+        requires circuit { signals.now.circuit ≡ circuit.now }
+        requires goal { goal < 2 ^ length signals.now.lits }
+        requires base { cert.base.circuit ≡ circuit.now }
+        requires accepted { Accepted (excludes_formula circuit.now signals.now.lits cert.base.clauses goal) cert.excludes }
+        ensures { result ≡ record { signals = signals.now; goal = goal; basis = Clauses cert } }
+    {
+        circuit.is_well_formed();
+        signals.is_well_formed();
+        cert.is_checked();
+        Evidence {
+            goal,
+            basis: Basis::Clauses(cert),
+            signals: Snapshot::of(signals),
+        }
+    }
+
     /// Says that the goal is below the number of goals, and that the basis was checked.
     pub fn is_checked(&self)
         ensures { IsEvidence self.now }
@@ -130,6 +166,18 @@ impl Evidence {
             Basis::Run(_) => Kind::Reached,
             Basis::Clauses(_) => Kind::Unreachable,
         }
+    }
+
+    /// What shows that the goal is settled.
+    pub fn into_basis(self) -> Basis
+        ensures { result ≡ self.basis }
+    {
+        let Evidence {
+            goal: _,
+            basis,
+            signals: _,
+        } = self;
+        basis
     }
 
     pub fn trace(&self) -> Option<&Trace>

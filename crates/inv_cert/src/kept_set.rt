@@ -95,6 +95,18 @@ impl KeptSet {
         })
     }
 
+    /// A set of which all that `check` tries is known. Nothing is tried again, and it takes no memory.
+    pub fn of_checked(circuit: &Circuit, clauses: LatchClauses, kept: Proofs) -> KeptSet
+        requires { IsKeptSet (record { circuit = circuit.now; clauses = clauses; kept = kept }) }
+        ensures { result ≡ record { circuit = circuit.now; clauses = clauses; kept = kept } }
+    {
+        KeptSet {
+            clauses,
+            kept,
+            circuit: Snapshot::of(circuit),
+        }
+    }
+
     /// Says that each clause was checked, and so that together they are an invariant.
     pub fn is_checked(&self)
         ensures checked { IsKeptSet self.now }

@@ -11,7 +11,7 @@ mod literal;
 mod reset;
 
 pub use certificate::Certificate;
-pub use evidence::Evidence;
+pub use evidence::{Basis, Evidence};
 pub use fault::{CertFault, KeptFault};
 pub use kept_set::KeptSet;
 pub use laws::{kept_sets_are_invariant, shown_is_not_barred};
