@@ -1,5 +1,5 @@
 -- Seats that are taken out and put back one by one.
-use Rattle.std.proofs.Common.{◌≡◌, ℕ, zero, suc, take, ◌+◌, ◌<◌, List, [], ◌∷◌, ◌++◌, length, map, get_or, sym, refl, ap, ◌∙◌, subst, arith, All, append_assoc}
+use Rattle.std.proofs.Common.{◌≡◌, ℕ, ◌+◌, ◌<◌, List, [], ◌∷◌, ◌++◌, length, map, get_or, sym, refl, ap, ◌∙◌, subst, arith, All, append_assoc}
 use Rattle.std.specs.List.{range_with_len}
 use Rattle.std.proofs.lemmas.List.FromFn.{get_or-map-range_with_len, length-map-range_with_len}
 use Rattle.job_desk.specs.Seats.{JobDeskState, JobSeatState, new_seat, AreAllOf}
@@ -32,10 +32,3 @@ all_after desk room before after len each all = record {
       all.distinct i j d lt h (sym (each i d g).caller ∙ e ∙ (each j d h).caller);
   room = all.room;
 }
-
--- a list in front of another
-pub taken_all : {X : Type 0} (n : ℕ) (xs ys : List X) → length xs ≡ n → take n (xs ++ ys) ≡ xs
-taken_all zero [] ys e = refl
-taken_all zero (x ∷ xs) ys e = absurd (omega arith)
-taken_all (suc n) [] ys e = absurd (omega arith)
-taken_all (suc n) (x ∷ xs) ys e = ap (λ l. x ∷ l) (taken_all n xs ys (omega arith))

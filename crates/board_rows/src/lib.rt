@@ -1,4 +1,4 @@
-//! Rows of a board, as tests: its core step by step, histories and their faults, the desk of jobs and the pool of seeds on threads.
+//! Rows of a board, as tests: its core step by step, histories and their faults, the desk of jobs, the pool of seeds and the board on threads.
 #![tactic(auto)]
 
 #[cfg(test)]
@@ -9,3 +9,9 @@ mod desk_rows;
 mod history_rows;
 #[cfg(test)]
 mod pool_rows;
+#[cfg(test)]
+mod post_rows;
+#[cfg(test)]
+mod posting;
+#[cfg(test)]
+mod turn_rows;

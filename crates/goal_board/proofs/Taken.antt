@@ -258,10 +258,20 @@ mapped_at f [] k b e = absurd (none-some b e)
 mapped_at f (x ∷ xs) zero b e = (x, refl, same_Some (f x) b e)
 mapped_at f (x ∷ xs) (suc k) b e = mapped_at f xs k b e
 
+-- what these passes posted: a history with its evidence, and the marks of the goals
+pub record IsWhole (t : Terms) (passes : List PassState) (history : List Entry) (evidence : List Evidence) (marks : List (Option ℕ)) : Type 0 where
+  pub is_history : IsHistory t history
+  pub led : IsLed t.goals history
+  pub at_numbers : All (AreAtNumbers history evidence) passes
+  pub posted : All (IsPostedBy passes) history
+  pub evidenced : AreEvidenced t history evidence
+  pub settled : All (λ (p : PassState). All (HasEntry history) p.known.settled) passes
+  pub marks_are : AreMarks t.goals history marks
+
 module _ (t : Terms) (goals : ℕ) (passes : List PassState) (known : Known) (posts : List Posted) (marks : List (Option ℕ))
     (g : AreGathered t goals passes known posts) (e : IsEnd t known marks) (sorted : List Posted) (o : IsInOrder posts sorted) where
   -- the sorted posts' entries are the history
-  pub history_is : entries_of sorted ≡ e.history
+  history_is : entries_of sorted ≡ e.history
   history_is =
       same_lists (entries_of sorted) e.history (length-map sorted (λ (p : Posted). p.entry) ∙ o.count ∙ as_many t goals passes known posts marks g e)
       (λ k x at.
@@ -270,7 +280,7 @@ module _ (t : Terms) (goals : ℕ) (passes : List PassState) (known : Known) (po
       let placed : slice_get e.history m.0.entry.number ≡ Some m.0.entry = e.places m.0.entry (g.handed m.0.entry (entry_among posts m.0 q.0)) in
       ap (λ (n : ℕ). slice_get e.history n) (sym q.1) ∙ placed ∙ ap (λ (y : Entry). Some y) m.2)
 
-  pub at_numbers : All (AreAtNumbers (entries_of sorted) (map (λ (p : Posted). p.evidence) sorted)) passes
+  at_numbers : All (AreAtNumbers (entries_of sorted) (map (λ (p : Posted). p.evidence) sorted)) passes
   at_numbers i d lt k x v a b =
       let p : Posted = record { entry = x; evidence = v } in
       let at : slice_get sorted x.number ≡ Some p = o.placed_at p (g.among i d lt k x v a b) in
@@ -282,10 +292,10 @@ module _ (t : Terms) (goals : ℕ) (passes : List PassState) (known : Known) (po
   among_posts : (k : ℕ) (d : Posted) → k < length sorted → Contains posts (get_or sorted k d)
   among_posts k d lt = (o.numbered k (get_or sorted k d) (slice_get-get_or sorted k d lt)).0
 
-  pub all_posted : All (IsPostedBy passes) (entries_of sorted)
+  all_posted : All (IsPostedBy passes) (entries_of sorted)
   all_posted = All-map (IsPostedBy passes) (λ (p : Posted). p.entry) sorted (λ k d lt. All-contains (λ (p : Posted). IsPostedBy passes p.entry) posts (get_or sorted k d) g.posted (among_posts k d lt))
 
-  pub all_evidenced : AreEvidenced t (entries_of sorted) (map (λ (p : Posted). p.evidence) sorted)
+  all_evidenced : AreEvidenced t (entries_of sorted) (map (λ (p : Posted). p.evidence) sorted)
   all_evidenced = record {
     count = length-map sorted (λ (p : Posted). p.evidence) ∙ sym (length-map sorted (λ (p : Posted). p.entry));
     each = λ k x v a b.
@@ -298,15 +308,27 @@ module _ (t : Terms) (goals : ℕ) (passes : List PassState) (known : Known) (po
         (subst (λ (y : Entry). IsEvidenceOf t y m.0.evidence) m.2 record { checked = i.checked; signals_are = i.signals_are; goal = i.goal; kind = i.kind; shown = i.shown });
   }
 
-  pub all_settled : All (λ (p : PassState). All (HasEntry (entries_of sorted)) p.known.settled) passes
+  all_settled : All (λ (p : PassState). All (HasEntry (entries_of sorted)) p.known.settled) passes
   all_settled i d lt k x lt' = subst (λ (h : List Entry). HasEntry h (get_or (get_or passes i d).known.settled k x)) (sym history_is)
       (All-contains (HasEntry e.history) known.settled (get_or (get_or passes i d).known.settled k x) e.settled (g.settled i d lt k x lt'))
 
-  pub all_marks : AreMarks t.goals (entries_of sorted) marks
+  all_marks : AreMarks t.goals (entries_of sorted) marks
   all_marks = subst (λ (h : List Entry). AreMarks t.goals h marks) (sym history_is) e.marks_are
 
-  pub is_history : IsHistory t (entries_of sorted)
+  is_history : IsHistory t (entries_of sorted)
   is_history = subst (IsHistory t) (sym history_is) e.is_history
 
-  pub is_led : IsLed t.goals (entries_of sorted)
+  is_led : IsLed t.goals (entries_of sorted)
   is_led = subst (IsLed t.goals) (sym history_is) e.led
+
+  -- all that the passes posted, in order
+  pub whole : IsWhole t passes (entries_of sorted) (map (λ (p : Posted). p.evidence) sorted) marks
+  whole = record {
+    is_history = is_history;
+    led = is_led;
+    at_numbers = at_numbers;
+    posted = all_posted;
+    evidenced = all_evidenced;
+    settled = all_settled;
+    marks_are = all_marks;
+  }

@@ -1,5 +1,5 @@
 -- Boards and passes, as contracts see them.
-use Rattle.std.specs.Prelude.{◌≡◌, ◌≢◌, ℕ, ◌+◌, ◌<◌, max, List, [], length, All, AllPairs, Option, Some, None}
+use Rattle.std.specs.Prelude.{◌≡◌, ◌≢◌, ℕ, ◌+◌, ◌<◌, ◌≤◌, max, List, [], length, All, AllPairs, Option, Some, None}
 use Rattle.atomic_table.specs.Seated.{TableId}
 use Rattle.board_core.specs.declared.entry.Entry.{Entry}
 use Rattle.board_core.specs.declared.entry.Source.{Source}
@@ -67,15 +67,21 @@ pub record MayPost (pass : PassState) (goal : ℕ) : Type 0 where
   pub range : goal < pass.goals
   pub new : All (λ (e : Entry). e.goal ≢ goal) pass.known.entries
 
--- What evidence has to show beside its goal. Clauses of the prover are all of the greatest invariant among the candidates, in their order.
+-- A certificate of the prover: its clauses are all of the greatest invariant among the candidates, in their order, and each proof has at most
+-- one step more than the budget has lemmas.
+pub record IsProverCert (t : Terms) (cert : CertificateParts) : Type 0 where
+  pub greatest : IsGreatestInvariant t.signals.value.circuit t.signals.value.lits t.options.strength cert.base.clauses
+  pub kept : All (λ proof. length proof ≤ t.options.lemmas + 1) cert.base.kept
+  pub excludes : length cert.excludes ≤ t.options.lemmas + 1
+
+-- What evidence has to show beside its goal.
 abbrev pub IsShownBy : Terms → Source → Basis → Type 0
 IsShownBy t Zero basis = Unit {0}
 IsShownBy t (Walk b) basis = Unit {0}
 IsShownBy t Sweep basis = Unit {0}
 IsShownBy t (Hop b) basis = Unit {0}
 IsShownBy t (Again r) basis = Unit {0}
-IsShownBy t Proved basis =
-    (cert : CertificateParts) → basis ≡ Clauses cert → IsGreatestInvariant t.signals.value.circuit t.signals.value.lits t.options.strength cert.base.clauses
+IsShownBy t Proved basis = (cert : CertificateParts) → basis ≡ Clauses cert → IsProverCert t cert
 
 -- the entry of a post
 abbrev pub posted_entry : ℕ → ℕ → Source → ℕ → ℕ → Entry
