@@ -1,11 +1,9 @@
 -- The blocks of goals are read as their lines tell them.
-use Rattle.std.proofs.Common.{lit<, ◌≡◌, ◌⊎◌, inl, inr, ℕ, ◌<◌, ◌^◌, Bool, true, false, cond, Option, Some, None, List, [], ◌∷◌, ◌++◌, map, get_or, refl, sym, ap, ◌∙◌, subst, append_assoc, arith}
+use Rattle.std.proofs.Common.{lit<, ◌≡◌, inl, inr, ℕ, ◌<◌, ◌^◌, Bool, false, cond, Option, Some, None, List, [], ◌∷◌, ◌++◌, map, get_or, refl, sym, ap, ◌∙◌, subst, append_assoc, arith}
 use Rattle.std.specs.Prelude.{codes, nat_eq, bytes_eq, decimal}
 use Rattle.std.specs.Option.{option_map}
 use Rattle.std.specs.List.{AllByRecursion}
 use Rattle.std.proofs.lemmas.Bool.{eqb-true, eq-eqb}
-use Rattle.std.proofs.lemmas.List.{append-nil}
-use Rattle.std.proofs.lemmas.Slice.Eq.{bytes_eq-Decides}
 use Rattle.text_words.specs.Numbers.{decimal_number_of}
 use Rattle.aig_model.specs.declared.trace.Trace.{Trace}
 use Rattle.lrat_text.specs.declared.proof.LratStep.{LratStep}
@@ -21,15 +19,15 @@ use Rattle.report_text.proofs.Pieces.{all-append}
 use Rattle.report_text.proofs.GoalLines.{block-is_spelling}
 use Rattle.report_text.proofs.ProofLines.{proof-is_spelling}
 use Rattle.report_text.proofs.WitnessLines.{witness-is_spelling}
-use Rattle.report_lines.specs.Words.{◌>>?◌, word, both, mapped, behind_name, named, until, last, whole_line, small_of}
+use Rattle.report_lines.specs.Words.{◌>>?◌, word, both, mapped, behind_name, named, until, whole_line, small_of}
 use Rattle.report_lines.specs.Reading.{Place, line_read}
 use Rattle.report_sections.specs.Pieces.{ReadsTo, one}
 use Rattle.report_sections.specs.Proofs.{proof_read}
 use Rattle.report_sections.specs.Seeds.{bound_of}
-use Rattle.report_sections.proofs.Items.{AreItems, IsSmall, passes_none}
+use Rattle.report_sections.proofs.Sections.{AreItems, IsSmall, passes_none}
 use Rattle.report_sections.proofs.LineWords.{IsLineParse, line-reads, line-is_spelling}
 use Rattle.report_sections.proofs.Numbers.{IsLong, number_field, small_field, count_parse}
-use Rattle.report_sections.proofs.Parses.{IsField, IsParse, some-some, bind-some, cond-some, name-or, last-tells, name-tells, name-back, field, and_parse, name_parse}
+use Rattle.report_sections.proofs.Parses.{IsField, IsParse, some-some, bind-some, cond-some, name-or, made-tells, name-tells, name-back, whole-mapped, field, and_parse, name_parse}
 use Rattle.report_sections.proofs.Until.{words-differ, until_parse}
 use Rattle.report_sections.proofs.Combine.{section-reads, Leads, leads-reads}
 use Rattle.report_sections.proofs.Pairs.{mapped-reads}
@@ -40,17 +38,8 @@ use Rattle.report_blocks.specs.declared.goals.GoalLine.{GoalLine}
 use Rattle.report_blocks.specs.declared.goals.GoalLine.TheVariants as firsts
 use Rattle.report_blocks.specs.Witness.{trace_read}
 use Rattle.report_blocks.specs.Goals.{followed, hop_of, reached_of, unreachable_of, depth_of, OpenFields, to_open, open_of, verdict_of, behind_goal, goal_line_of, block_rest, block_read, goals_read}
+use Rattle.report_blocks.proofs.Named.{cond-or, Told, named-tells, named-back}
 use Rattle.report_blocks.proofs.WitnessRead.{trace-reads, some_trace, some_trace-fits}
-
--- ---- a choice by a word
-pub cond-or : {A : Type 0} (w name : Word) (a o : Option A) (x : A) → cond (bytes_eq w name) a o ≡ Some x → ((w ≡ name) × (a ≡ Some x)) ⊎ (o ≡ Some x)
-cond-or {A} w name a o x e =
-    let G : Type 0 = ((w ≡ name) × (a ≡ Some x)) ⊎ (o ≡ Some x) in
-    let step : (t : Bool) → (t ≡ true → w ≡ name) → cond t a o ≡ Some x → G = λ t. elim t as (λ s. (s ≡ true → w ≡ name) → cond s a o ≡ Some x → G) [
-      | true ↦ λ h g. inl (h refl, g)
-      | false ↦ λ h g. inr g
-    ] in
-    step (bytes_eq w name) (bytes_eq-Decides w name).0 e
 
 -- a name that follows
 followed_parse : {A : Type 0} {F : A → Type 0} {v : A → Line} {p : Line → Option (A × Line)} (name : Word) → IsParse F v p → IsParse F (λ a. v a ++ name ∷ []) (followed name p)
@@ -71,13 +60,6 @@ followed_parse {A} {F} {v} {p} name good = record {
 }
 
 -- ---- the bounds of hops
-some-hop : (w : Word) (o : Option ℕ) (h : HopBound) → small_of w ≡ o → option_map (λ n. hop_bounds.To n) o ≡ Some h → FitsHop h × (hop_text h ≡ w)
-unfolding hop_text
-some-hop w None h is e = cc
-some-hop w (Some n) h is e =
-    let told = small_field.tells w n is in
-    subst (λ (k : HopBound). FitsHop k × (hop_text k ≡ w)) (some-some (hop_bounds.To n) h e) (told.0, told.1)
-
 hop-tells : (w : Word) (h : HopBound) → hop_of w ≡ Some h → FitsHop h × (hop_text h ≡ w)
 unfolding hop_text
 hop-tells w h e =
@@ -85,7 +67,7 @@ hop-tells w h e =
     let number = option_map (λ n. hop_bounds.To n) (small_of w) in
     elim (name-or FitsHop hop_text w (codes "none") hop_bounds.Nothing h (cond (bytes_eq w (codes "noseed")) (Some hop_bounds.NoSeed) number) tt refl e) as (λ _. G) [
       | inl g ↦ g
-      | inr k ↦ elim (name-or FitsHop hop_text w (codes "noseed") hop_bounds.NoSeed h number tt refl k) as (λ _. G) [ inl g ↦ g | inr m ↦ some-hop w (small_of w) h refl m ]
+      | inr k ↦ elim (name-or FitsHop hop_text w (codes "noseed") hop_bounds.NoSeed h number tt refl k) as (λ _. G) [ inl g ↦ g | inr m ↦ made-tells FitsHop hop_text small_field (λ n. hop_bounds.To n) (λ n f. (f, refl)) w h m ]
     ]
 
 no-letters : (n : ℕ) (name : Word) → n < 2 ^ 32 → 57 < get_or name 0 0 → bytes_eq (decimal n) name ≡ false
@@ -125,30 +107,13 @@ verdict_words (firsts.Open depth hops strength) =
 abbrev line_words : ℕ → GoalLine → Line
 line_words goal l = codes "goal" ∷ decimal goal ∷ verdict_words l
 
--- a whole line's words, where its reader is a parse
-whole-tells : {A : Type 0} (F : A → Type 0) (v : A → Line) (p : Line → Option (A × Line)) (make : A → GoalLine) (ws : Line) (l : GoalLine) → IsParse F v p → whole_line (mapped make p) ws ≡ Some l
-    → (a : A) × (F a) × (v a ≡ ws) × (make a ≡ l)
-whole-tells {A} F v p make ws l good e =
-    let first = bind-some (mapped make p ws) (λ (b : GoalLine × Line). last b.0 b.1) l e in
-    let second = bind-some (p ws) (λ (a : A × Line). Some (make a.0, a.1)) first.0 first.1 in
-    let same = some-some (make second.0.0, second.0.1) first.0 second.2 in
-    let told = good.tells ws second.0.0 second.0.1 second.1 in
-    let end = last-tells first.0.0 first.0.1 l first.2 in
-    let none : second.0.1 ≡ [] = ap (λ (t : GoalLine × Line). t.1) same ∙ end.1 in
-    let made : make second.0.0 ≡ l = ap (λ (t : GoalLine × Line). t.0) same ∙ end.0 in
-    (second.0.0, told.0, sym (append-nil (v second.0.0)) ∙ (ap (λ (r : Line). v second.0.0 ++ r) (sym none) ∙ told.1), made)
+-- the words behind the name of a verdict
+verdict-named : {A : Type 0} {F : A → Type 0} {v : A → Line} {p : Line → Option (A × Line)} (w name : Word) → IsParse F v p → (make : A → GoalLine) → ((a : A) → F a → Told FitsLine verdict_words (make a) (name ∷ v a))
+    → (ws : Line) (l : GoalLine) → (w ≡ name) × (whole_line (mapped make p) ws ≡ Some l) → Told FitsLine verdict_words l (w ∷ ws)
+verdict-named {A} {F} {v} {p} w name good make fits ws l e = named-tells FitsLine verdict_words w name good make fits ws l (e.0, sym (whole-mapped make p ws) ∙ e.1)
 
-whole-back : {A : Type 0} (F : A → Type 0) (v : A → Line) (p : Line → Option (A × Line)) (make : A → GoalLine) (a : A) → IsParse F v p → F a → whole_line (mapped make p) (v a) ≡ Some (make a)
-whole-back {A} F v p make a good f =
-    let made : A × Line → Option (GoalLine × Line) = λ b. Some (make b.0, b.1) in
-    let end : GoalLine × Line → Option GoalLine = λ b. last b.0 b.1 in
-    let all : Option (A × Line) → Option GoalLine = λ o. (o >>? made) >>? end in
-    ap (λ (l : Line). whole_line (mapped make p) l) (sym (append-nil (v a))) ∙ ap all (good.back a [] f)
-
-reached-tells : (ws : Line) (l : GoalLine) → reached_of ws ≡ Some l → FitsLine l × (verdict_words l ≡ codes "reached" ∷ ws)
-reached-tells ws l e =
-    let told = whole-tells IsLong (λ n. decimal n ∷ []) (word decimal_number_of) (λ n. firsts.Reached n) ws l (field number_field) e in
-    subst (λ (m : GoalLine). FitsLine m × (verdict_words m ≡ codes "reached" ∷ ws)) told.3 (told.1, ap (λ (r : Line). codes "reached" ∷ r) told.2)
+named-verdict : {A : Type 0} {F : A → Type 0} {v : A → Line} {p : Line → Option (A × Line)} → IsParse F v p → (make : A → GoalLine) (a : A) → F a → whole_line (mapped make p) (v a) ≡ Some (make a)
+named-verdict {A} {F} {v} {p} good make a f = whole-mapped make p (v a) ∙ named-back good make a f
 
 abbrev Numbers : ℕ × ℕ → Type 0
 Numbers t = IsLong t.0 × IsSmall t.1
@@ -158,11 +123,6 @@ number_inv t = decimal t.0 ∷ codes "inv" ∷ decimal t.1 ∷ []
 
 inv_parse : IsParse Numbers number_inv (both (word decimal_number_of) (named (codes "inv") (word small_of)))
 inv_parse = and_parse (field number_field) (name_parse (codes "inv") (field small_field))
-
-unreachable-tells : (ws : Line) (l : GoalLine) → unreachable_of ws ≡ Some l → FitsLine l × (verdict_words l ≡ codes "unreachable" ∷ ws)
-unreachable-tells ws l e =
-    let told = whole-tells Numbers number_inv (both (word decimal_number_of) (named (codes "inv") (word small_of))) (λ t. firsts.Unreachable t.0 t.1) ws l inv_parse e in
-    subst (λ (m : GoalLine). FitsLine m × (verdict_words m ≡ codes "unreachable" ∷ ws)) told.3 ((told.1.0, told.1.1), ap (λ (r : Line). codes "unreachable" ∷ r) told.2)
 
 abbrev Bounds : OpenFields → Type 0
 Bounds t = FitsBound t.0 × (AllByRecursion FitsHop t.1.0 × FitsBound t.1.1)
@@ -179,32 +139,27 @@ open_parse = and_parse (name_parse (codes "depth") (followed_parse (codes "hops"
 bounds-open : (t : OpenFields) → bounds_words t ≡ codes "depth" ∷ bound_text t.0 ∷ codes "hops" ∷ (map hop_text t.1.0 ++ codes "strength" ∷ bound_text t.1.1 ∷ [])
 bounds-open t = ap (λ (r : Line). codes "depth" ∷ bound_text t.0 ∷ codes "hops" ∷ r) (append_assoc (map hop_text t.1.0) (codes "strength" ∷ []) (bound_text t.1.1 ∷ []))
 
-open-tells : (ws : Line) (l : GoalLine) → open_of ws ≡ Some l → FitsLine l × (verdict_words l ≡ codes "open" ∷ ws)
-open-tells ws l e =
-    let told = whole-tells Bounds bounds_words open_parts to_open ws l open_parse e in
-    subst (λ (m : GoalLine). FitsLine m × (verdict_words m ≡ codes "open" ∷ ws)) told.3
-    (record { depth_fits = told.1.0; hops_fit = told.1.1.0; strength_fits = told.1.1.1 }, ap (λ (r : Line). codes "open" ∷ r) (sym (bounds-open told.0) ∙ told.2))
+open-fits : (t : OpenFields) → Bounds t → Told FitsLine verdict_words (to_open t) (codes "open" ∷ bounds_words t)
+open-fits t f = (record { depth_fits = f.0; hops_fit = f.1.0; strength_fits = f.1.1 }, ap (λ (r : Line). codes "open" ∷ r) (sym (bounds-open t)))
 
-verdict-tells : (ws : Line) (l : GoalLine) → verdict_of ws ≡ Some l → FitsLine l × (verdict_words l ≡ ws)
+verdict-tells : (ws : Line) (l : GoalLine) → verdict_of ws ≡ Some l → Told FitsLine verdict_words l ws
 verdict-tells [] l e = cc
 verdict-tells (w ∷ ws) l e =
-    let G : Type 0 = FitsLine l × (verdict_words l ≡ w ∷ ws) in
-    let named : (name : Word) → w ≡ name → FitsLine l × (verdict_words l ≡ name ∷ ws) → G = λ name is told. (told.0, told.1 ∙ ap (λ (v : Word). v ∷ ws) (sym is)) in
+    let G : Type 0 = Told FitsLine verdict_words l (w ∷ ws) in
     let open_or = cond (bytes_eq w (codes "open")) (open_of ws) None in
     elim (cond-or w (codes "reached") (reached_of ws) (cond (bytes_eq w (codes "unreachable")) (unreachable_of ws) open_or) l e) as (λ _. G) [
-      | inl g ↦ named (codes "reached") g.0 (reached-tells ws l g.1)
+      | inl g ↦ verdict-named w (codes "reached") (field number_field) (λ n. firsts.Reached n) (λ n f. (f, refl)) ws l g
       | inr h ↦ elim (cond-or w (codes "unreachable") (unreachable_of ws) open_or l h) as (λ _. G) [
-        | inl g ↦ named (codes "unreachable") g.0 (unreachable-tells ws l g.1)
-        | inr k ↦ elim (cond-or w (codes "open") (open_of ws) None l k) as (λ _. G) [ inl g ↦ named (codes "open") g.0 (open-tells ws l g.1) | inr m ↦ cc ]
+        | inl g ↦ verdict-named w (codes "unreachable") inv_parse (λ t. firsts.Unreachable t.0 t.1) (λ t f. ((f.0, f.1), refl)) ws l g
+        | inr k ↦ elim (cond-or w (codes "open") (open_of ws) None l k) as (λ _. G) [ inl g ↦ verdict-named w (codes "open") open_parse to_open open-fits ws l g | inr m ↦ cc ]
       ]
     ]
 
 verdict-back : (l : GoalLine) → FitsLine l → verdict_of (verdict_words l) ≡ Some l
-verdict-back (firsts.Reached n) f = whole-back IsLong (λ k. decimal k ∷ []) (word decimal_number_of) (λ k. firsts.Reached k) n (field number_field) f
-verdict-back (firsts.Unreachable n inv) f =
-    whole-back Numbers number_inv (both (word decimal_number_of) (named (codes "inv") (word small_of))) (λ t. firsts.Unreachable t.0 t.1) (n, inv) inv_parse (f.0, f.1)
+verdict-back (firsts.Reached n) f = named-verdict (field number_field) (λ k. firsts.Reached k) n f
+verdict-back (firsts.Unreachable n inv) f = named-verdict inv_parse (λ t. firsts.Unreachable t.0 t.1) (n, inv) (f.0, f.1)
 verdict-back (firsts.Open depth hops strength) f =
-    ap open_of (sym (bounds-open (depth, (hops, strength)))) ∙ whole-back Bounds bounds_words open_parts to_open (depth, (hops, strength)) open_parse (f.depth_fits, (f.hops_fit, f.strength_fits))
+    ap open_of (sym (bounds-open (depth, (hops, strength)))) ∙ named-verdict open_parse to_open (depth, (hops, strength)) (f.depth_fits, (f.hops_fit, f.strength_fits))
 
 -- the goal's number, before them
 goal-tells : (goal : ℕ) (ws r : Line) → behind_goal goal ws ≡ Some r → codes "goal" ∷ decimal goal ∷ r ≡ ws

@@ -1,4 +1,5 @@
 pub mod GoalsRead
+pub mod Named
 pub mod QueriesRead
 pub mod RowsRead
 pub mod WitnessRead

@@ -21,16 +21,16 @@ use Rattle.report_text.proofs.Pieces.{IsSpelling, lines-plain, lines-tell, numbe
 use Rattle.report_text.proofs.ClauseLines.{clause-is_line, clause-tells}
 use Rattle.report_text.proofs.ProofLines.{proof-is_spelling}
 use Rattle.report_text.proofs.QueryLines.{spent-is_spelling, refute-is_spelling}
-use Rattle.report_lines.specs.Words.{◌>>?◌, word, both, behind_name, last, whole_line, small_of}
+use Rattle.report_lines.specs.Words.{◌>>?◌, word, both, behind_name, last, small_of}
 use Rattle.report_lines.specs.Reading.{Place, line_read}
 use Rattle.report_sections.specs.Items.{HasItems}
 use Rattle.report_sections.specs.Pieces.{ReadsTo, one, and_read}
 use Rattle.report_sections.specs.Proofs.{clause_of, proof_read}
 use Rattle.report_sections.specs.Certs.{clauses_read}
-use Rattle.report_sections.proofs.Items.{AreItems, IsSmall, passes_none}
+use Rattle.report_sections.proofs.Sections.{AreItems, IsSmall, passes_none}
 use Rattle.report_sections.proofs.LineWords.{IsLineParse, line-reads, line-is_spelling}
 use Rattle.report_sections.proofs.Numbers.{small_field, count_parse}
-use Rattle.report_sections.proofs.Parses.{IsParse, some-some, bind-some, cond-some, last-tells, name-tells, name-back, field, and_parse}
+use Rattle.report_sections.proofs.Parses.{IsParse, some-some, bind-some, cond-told, cond-some, name-tells, name-back, field, and_parse}
 use Rattle.report_sections.proofs.Combine.{items-reads, section-reads, Leads, leads-reads}
 use Rattle.report_sections.proofs.Pairs.{pair-reads, mapped-reads, same-reads}
 use Rattle.report_sections.proofs.ProofRead.{clause_parse, proof-reads}
@@ -38,21 +38,9 @@ use Rattle.report_sections.proofs.CertsRead.{no-proof, no_literals, clause-is_sp
 use Rattle.report_blocks.specs.declared.queries.QueryLine.{QueryLine}
 use Rattle.report_blocks.specs.declared.queries.QueryLine.TheVariants as firsts
 use Rattle.report_blocks.specs.Queries.{one_of, two_of, search_of, query_of, spent_of, refute_of, is_above, goals_from, if_so_many, blocked_of, search_rest, clauses_rest, query_rest, spent_read, refute_read, spents_read, refutes_read}
-use Rattle.report_blocks.proofs.GoalsRead.{cond-or}
+use Rattle.report_blocks.proofs.Named.{cond-or, Told, named-tells, named-back}
 
 -- ---- lines of one number and of two
-whole-told : {A : Type 0} (F : A → Type 0) (v : A → Line) (p : Line → Option (A × Line)) (ws : Line) (a : A) → IsParse F v p → whole_line p ws ≡ Some a → F a × (v a ≡ ws)
-whole-told {A} F v p ws a good e =
-    let first = bind-some (p ws) (λ (b : A × Line). last b.0 b.1) a e in
-    let end = last-tells first.0.0 first.0.1 a first.2 in
-    let told = good.tells ws first.0.0 first.0.1 first.1 in
-    let whole : v first.0.0 ≡ ws = sym (append-nil (v first.0.0)) ∙ (ap (λ (l : Line). v first.0.0 ++ l) (sym end.1) ∙ told.1) in
-    subst (λ (b : A). F b × (v b ≡ ws)) end.0 (told.0, whole)
-
-whole-read : {A : Type 0} (F : A → Type 0) (v : A → Line) (p : Line → Option (A × Line)) (a : A) → IsParse F v p → F a → whole_line p (v a) ≡ Some a
-whole-read {A} F v p a good f =
-    ap (λ (l : Line). whole_line p l) (sym (append-nil (v a))) ∙ ap (λ (o : Option (A × Line)). o >>? λ b. last b.0 b.1) (good.back a [] f)
-
 abbrev one_words : ℕ → Line
 one_words n = decimal n ∷ []
 
@@ -93,69 +81,44 @@ line_words (firsts.Hop batch step) = codes "hop" ∷ two_words (batch, step)
 line_words (firsts.Kept place count) = codes "kept" ∷ two_words (place, count)
 line_words (firsts.Excludes goal count) = codes "excludes" ∷ two_words (goal, count)
 
-mapped-told : {A : Type 0} (make : A → QueryLine) (o : Option A) (l : QueryLine) → option_map make o ≡ Some l → (a : A) × (o ≡ Some a) × (make a ≡ l)
-mapped-told make None l e = cc
-mapped-told make (Some a) l e = (a, refl, some-some (make a) l e)
-
--- a verdict on the words behind a name
-abbrev Told : (QueryLine → Type 0) → QueryLine → Line → Type 0
-Told F l ws = F l × (line_words l ≡ ws)
-
-one-tells : (F : QueryLine → Type 0) (make : ℕ → QueryLine) (name : Word) (ws : Line) (l : QueryLine) → ((n : ℕ) → IsSmall n → F (make n)) → ((n : ℕ) → line_words (make n) ≡ name ∷ one_words n)
-    → option_map make (one_of ws) ≡ Some l → Told F l (name ∷ ws)
-one-tells F make name ws l fits are e =
-    let told = mapped-told make (one_of ws) l e in
-    let numbers = whole-told IsSmall one_words (word small_of) ws told.0 one_parse told.1 in
-    subst (λ (m : QueryLine). Told F m (name ∷ ws)) told.2 (fits told.0 numbers.0, are told.0 ∙ ap (λ (r : Line). name ∷ r) numbers.1)
-
-two-tells : (F : QueryLine → Type 0) (make : ℕ × ℕ → QueryLine) (name : Word) (ws : Line) (l : QueryLine) → ((t : ℕ × ℕ) → AreSmall t → F (make t)) → ((t : ℕ × ℕ) → line_words (make t) ≡ name ∷ two_words t)
-    → option_map make (two_of ws) ≡ Some l → Told F l (name ∷ ws)
-two-tells F make name ws l fits are e =
-    let told = mapped-told make (two_of ws) l e in
-    let numbers = whole-told AreSmall two_words (both (word small_of) (word small_of)) ws told.0 two_parse told.1 in
-    subst (λ (m : QueryLine). Told F m (name ∷ ws)) told.2 (fits told.0 numbers.0, are told.0 ∙ ap (λ (r : Line). name ∷ r) numbers.1)
-
-renamed : (F : QueryLine → Type 0) (l : QueryLine) (w name : Word) (ws : Line) → w ≡ name → Told F l (name ∷ ws) → Told F l (w ∷ ws)
-renamed F l w name ws is told = (told.0, told.1 ∙ ap (λ (v : Word). v ∷ ws) (sym is))
-
-search-tells : (ws : Line) (l : QueryLine) → search_of ws ≡ Some l → Told IsSearch l ws
+search-tells : (ws : Line) (l : QueryLine) → search_of ws ≡ Some l → Told IsSearch line_words l ws
 search-tells [] l e = cc
 search-tells (w ∷ ws) l e =
-    let G : Type 0 = Told IsSearch l (w ∷ ws) in
+    let G : Type 0 = Told IsSearch line_words l (w ∷ ws) in
     let hop = cond (bytes_eq w (codes "hop")) (option_map (λ t. firsts.Hop t.0 t.1) (two_of ws)) None in
     elim (cond-or w (codes "sweep") (option_map (λ t. firsts.Sweep t) (one_of ws)) hop l e) as (λ _. G) [
-      | inl g ↦ renamed IsSearch l w (codes "sweep") ws g.0 (one-tells IsSearch (λ t. firsts.Sweep t) (codes "sweep") ws l (λ n h. h) (λ n. refl) g.1)
+      | inl g ↦ named-tells IsSearch line_words w (codes "sweep") one_parse (λ t. firsts.Sweep t) (λ n f. (f, refl)) ws l g
       | inr h ↦ elim (cond-or w (codes "hop") (option_map (λ t. firsts.Hop t.0 t.1) (two_of ws)) None l h) as (λ _. G) [
-        | inl g ↦ renamed IsSearch l w (codes "hop") ws g.0 (two-tells IsSearch (λ t. firsts.Hop t.0 t.1) (codes "hop") ws l (λ t f. (f.0, f.1)) (λ t. refl) g.1)
+        | inl g ↦ named-tells IsSearch line_words w (codes "hop") two_parse (λ t. firsts.Hop t.0 t.1) (λ t f. ((f.0, f.1), refl)) ws l g
         | inr k ↦ cc
       ]
     ]
 
-query-tells : (ws : Line) (l : QueryLine) → query_of ws ≡ Some l → Told FitsLine l ws
+query-tells : (ws : Line) (l : QueryLine) → query_of ws ≡ Some l → Told FitsLine line_words l ws
 query-tells [] l e = cc
 query-tells (w ∷ ws) l e =
-    let G : Type 0 = Told FitsLine l (w ∷ ws) in
+    let G : Type 0 = Told FitsLine line_words l (w ∷ ws) in
     let kept = option_map (λ t. firsts.Kept t.0 t.1) (two_of ws) in
     let excludes = option_map (λ t. firsts.Excludes t.0 t.1) (two_of ws) in
     elim (cond-or w (codes "kept") kept (cond (bytes_eq w (codes "excludes")) excludes (search_of (w ∷ ws))) l e) as (λ _. G) [
-      | inl g ↦ renamed FitsLine l w (codes "kept") ws g.0 (two-tells FitsLine (λ t. firsts.Kept t.0 t.1) (codes "kept") ws l (λ t f. (f.0, f.1)) (λ t. refl) g.1)
+      | inl g ↦ named-tells FitsLine line_words w (codes "kept") two_parse (λ t. firsts.Kept t.0 t.1) (λ t f. ((f.0, f.1), refl)) ws l g
       | inr h ↦ elim (cond-or w (codes "excludes") excludes (search_of (w ∷ ws)) l h) as (λ _. G) [
-        | inl g ↦ renamed FitsLine l w (codes "excludes") ws g.0 (two-tells FitsLine (λ t. firsts.Excludes t.0 t.1) (codes "excludes") ws l (λ t f. (f.0, f.1)) (λ t. refl) g.1)
+        | inl g ↦ named-tells FitsLine line_words w (codes "excludes") two_parse (λ t. firsts.Excludes t.0 t.1) (λ t f. ((f.0, f.1), refl)) ws l g
         | inr k ↦ let told = search-tells (w ∷ ws) l k in (search-fits l told.0, told.1)
       ]
     ]
 
 search-back : (l : QueryLine) → IsSearch l → search_of (line_words l) ≡ Some l
-search-back (firsts.Sweep step) f = ap (option_map (λ t. firsts.Sweep t)) (whole-read IsSmall one_words (word small_of) step one_parse f)
-search-back (firsts.Hop batch step) f = ap (option_map (λ t. firsts.Hop t.0 t.1)) (whole-read AreSmall two_words (both (word small_of) (word small_of)) (batch, step) two_parse (f.0, f.1))
+search-back (firsts.Sweep step) f = named-back one_parse (λ t. firsts.Sweep t) step f
+search-back (firsts.Hop batch step) f = named-back two_parse (λ t. firsts.Hop t.0 t.1) (batch, step) (f.0, f.1)
 search-back (firsts.Kept place count) f = absurd f
 search-back (firsts.Excludes goal count) f = absurd f
 
 query-back : (l : QueryLine) → FitsLine l → query_of (line_words l) ≡ Some l
 query-back (firsts.Sweep step) f = search-back (firsts.Sweep step) f
 query-back (firsts.Hop batch step) f = search-back (firsts.Hop batch step) f
-query-back (firsts.Kept place count) f = ap (option_map (λ t. firsts.Kept t.0 t.1)) (whole-read AreSmall two_words (both (word small_of) (word small_of)) (place, count) two_parse (f.0, f.1))
-query-back (firsts.Excludes goal count) f = ap (option_map (λ t. firsts.Excludes t.0 t.1)) (whole-read AreSmall two_words (both (word small_of) (word small_of)) (goal, count) two_parse (f.0, f.1))
+query-back (firsts.Kept place count) f = named-back two_parse (λ t. firsts.Kept t.0 t.1) (place, count) (f.0, f.1)
+query-back (firsts.Excludes goal count) f = named-back two_parse (λ t. firsts.Excludes t.0 t.1) (goal, count) (f.0, f.1)
 
 small-is_word : (n : ℕ) → IsSmall n → IsWord (decimal n)
 small-is_word n h = decimal-is_word n (let small : n < 2 ^ 32 = h in omega arith)
@@ -260,10 +223,6 @@ goals-tell (w ∷ ws) before all rising e =
     let head : decimal first.0 ≡ w = told.1 in
     let tail : map decimal rest.more ≡ ws = rest.words in
     record { more = first.0 ∷ rest.more; joined = rest.joined ∙ append_assoc before (first.0 ∷ []) rest.more; each = (told.0, rest.each); words = cc; rising = rest.rising }
-  where
-    cond-told : (t : Bool) (o : Option (List ℕ)) (x : List ℕ) → cond t o None ≡ Some x → (t ≡ true) × (o ≡ Some x)
-    cond-told true o x e = (refl, e)
-    cond-told false o x e = cc
 
 goals-back : (more before : List ℕ) → AllByRecursion IsSmall more → IsStrictlyIncreasing (before ++ more) → goals_from before (map decimal more) ≡ Some (before ++ more)
 goals-back [] before f rising = ap (λ (l : List ℕ). Some l) (sym (append-nil before))

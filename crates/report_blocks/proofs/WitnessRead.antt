@@ -18,9 +18,9 @@ use Rattle.report_lines.specs.Reading.{Place, Read, ◌>>=◌, line_read, settle
 use Rattle.report_sections.specs.History.{behind_front}
 use Rattle.report_sections.specs.Pieces.{Passes, ReadsTo, one, and_read}
 use Rattle.report_sections.specs.Seeds.{if_same, bits_of, bits_read}
-use Rattle.report_sections.proofs.Items.{passes_none}
+use Rattle.report_sections.proofs.Sections.{passes_none}
 use Rattle.report_sections.proofs.LineWords.{IsLineParse, line-reads, line-is_spelling}
-use Rattle.report_sections.proofs.Parses.{IsField, some-some, bind-some, name-or, field, whole_parse}
+use Rattle.report_sections.proofs.Parses.{IsField, bind-some, name-or, made-tells, field, whole_parse}
 use Rattle.report_sections.proofs.Until.{words-differ}
 use Rattle.report_sections.proofs.Combine.{Leads, leads-reads}
 use Rattle.report_sections.proofs.Pairs.{pair-reads, mapped-reads}
@@ -39,17 +39,11 @@ row_text (Some bits) = bits_line bits
 abbrev row_words : Option (List Bool) → Line
 row_words o = row_text o ∷ []
 
-some-row : (width : ℕ) (w : Word) (o : Option (List Bool)) (b : Option (List Bool)) → bits_of width w ≡ o → option_map (λ bits. Some bits) o ≡ Some b → FitsRow width b × (row_text b ≡ w)
-some-row width w None b is e = cc
-some-row width w (Some bits) b is e =
-    let told = (bits_field width).tells w bits is in
-    subst (λ (c : Option (List Bool)). FitsRow width c × (row_text c ≡ w)) (some-some (Some bits) b e) (told.0, told.1)
-
 row-tells : (width : ℕ) (w : Word) (b : Option (List Bool)) → row_word width w ≡ Some b → FitsRow width b × (row_text b ≡ w)
 row-tells width w b e =
     elim (name-or (FitsRow width) row_text w (codes ".") None b (option_map (λ bits. Some bits) (bits_of width w)) tt refl e) as (λ _. FitsRow width b × (row_text b ≡ w)) [
       | inl g ↦ g
-      | inr h ↦ some-row width w (bits_of width w) b refl h
+      | inr h ↦ made-tells (FitsRow width) row_text (bits_field width) (λ bits. Some bits) (λ bits f. (f, refl)) w b h
     ]
 
 no-end : (bits : List Bool) → bits_line bits ≡ codes "." → ⊥

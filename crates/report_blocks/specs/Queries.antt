@@ -5,7 +5,7 @@ use Rattle.report_text.specs.declared.report.BlockName.{BlockName}
 use Rattle.report_text.specs.declared.report.BlockName.TheVariants as names
 use Rattle.report_text.specs.declared.report.Block.{Block}
 use Rattle.report_lines.specs.Words.{Line, ◌>>?◌, word, both, behind_name, whole_line, small_of}
-use Rattle.report_lines.specs.Reading.{Place, Read, ◌>>=◌, line_read, section_read}
+use Rattle.report_lines.specs.Reading.{Place, Read, ◌>>=◌, settled, line_read, section_read}
 use Rattle.report_sections.specs.Pieces.{and_read}
 use Rattle.report_sections.specs.Proofs.{proof_read}
 use Rattle.report_sections.specs.Certs.{clauses_read}
@@ -65,6 +65,10 @@ query_rest (firsts.Sweep step) p = search_rest (names.Sweep step) p
 query_rest (firsts.Hop batch step) p = search_rest (names.Hop batch step) p
 query_rest (firsts.Kept place count) p = clauses_rest (λ clauses. names.Kept place clauses) count p
 query_rest (firsts.Excludes goal count) p = clauses_rest (λ clauses. names.Excludes goal clauses) count p
+
+-- a query whose first line tells this
+abbrev pub query_read : Option QueryLine → Place → Read Block
+query_read line p = settled p line p.bytes >>= λ l. query_rest l.0 l.1
 
 abbrev pub spent_read : Place → Read Block
 spent_read p = line_read spent_of p >>= λ l. query_rest l.0 l.1

@@ -6,15 +6,14 @@ ghost use Rattle.report_text.specs.Text.{goals_lines};
 ghost use Rattle.report_lines.specs.Words.{Takes, until};
 ghost use Rattle.report_lines.specs.Reading.{Gives, line_read};
 ghost use Rattle.report_sections.specs.Pieces.{Reads};
-ghost use Rattle.report_blocks.specs.Goals.{behind_goal, hop_of, reached_of, unreachable_of, depth_of, open_of, verdict_of, goal_line_of, block_rest, block_read, goals_read};
+ghost use Rattle.report_blocks.specs.Goals.{behind_goal, hop_of, reached_of, unreachable_of, depth_of, open_of, verdict_of, goal_line_of, block_rest, goals_read};
 
 use crate::witness::read_witness;
 use ketch_base::OutOfMemory;
 use report_lines::{
-    LineWords, ReportFault, TextLines, behind_name, last, read_count, small, take_number,
-    take_small,
+    LineWords, ReportFault, TextLines, behind_name, last, small, take_number, take_small,
 };
-use report_sections::{Size, bound, read_proof};
+use report_sections::{ItemReader, Size, bound, read_proof, read_section};
 use report_text::{GoalBlock, GoalBlocks, HopBound, HopBounds};
 use std::alloc::Global;
 
@@ -194,29 +193,28 @@ fn rest(
     }
 }
 
-fn block(
-    alloc: Global,
-    lines: &mut TextLines<'_>,
+#[derive(Drop)]
+struct BlockReader {
     size: Size,
-    goal: u32,
-) -> Result<GoalBlock, ReportFault>
-    ensures { Gives result lines.new (block_read size.inputs size.latches goal lines.old) }
-{
-    let line = goal_line(alloc, lines, goal)?;
-    let block = rest(alloc, lines, size, goal, line)?;
-    Ok(block)
 }
 
-#[tactic(auto, using(report_sections::proofs::ItemsRead::item_steps))]
-fn goals(alloc: Global, lines: &mut TextLines<'_>, size: Size) -> Result<GoalBlocks, ReportFault>
-    ensures { Gives result lines.new (goals_read size.inputs size.latches lines.old) }
-{
-    let count = read_count(b"goals", lines)?;
-    let mut goals = GoalBlocks::new(alloc);
-    for goal in 0..count {
-        goals.push(block(alloc, lines, size, goal)?)?;
+impl ItemReader for BlockReader {
+    type Item = GoalBlock;
+
+    ghost use Rattle.report_blocks.specs.Goals.{block_read};
+
+    ghost told = { λ b. block_read b.size.inputs b.size.latches };
+
+    fn read(
+        &self,
+        alloc: Global,
+        lines: &mut TextLines<'_>,
+        goal: u32,
+    ) -> Result<GoalBlock, ReportFault> {
+        let line = goal_line(alloc, lines, goal)?;
+        let block = rest(alloc, lines, self.size, goal, line)?;
+        Ok(block)
     }
-    Ok(goals)
 }
 
 /// The section of the goals.
@@ -228,5 +226,5 @@ pub fn read_goals(
     ensures gives { Gives result lines.new (goals_read size.inputs size.latches lines.old) }
     ensures reads { Reads (IsCounted (FitsBlock size.inputs size.latches)) goals_lines lines.old result lines.new }
 {
-    goals(alloc, lines, size)
+    read_section(alloc, lines, b"goals", &BlockReader { size })
 }

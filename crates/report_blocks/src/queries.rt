@@ -6,15 +6,16 @@ ghost use Rattle.report_text.specs.Form.{IsCounted, FitsSpent, FitsRefute};
 ghost use Rattle.report_text.specs.Text.{spents_lines, refutes_lines};
 ghost use Rattle.report_text.specs.declared.report.BlockName.TheVariants as names;
 ghost use Rattle.report_lines.specs.Reading.{Gives, line_read};
-ghost use Rattle.report_sections.specs.Pieces.{Reads};
-ghost use Rattle.report_blocks.specs.Queries.{one_of, two_of, search_of, query_of, spent_of, refute_of, goals_from, blocked_of, search_rest, clauses_rest, query_rest, spent_read, refute_read, spents_read, refutes_read, is_above};
+ghost use Rattle.report_sections.specs.Pieces.{Reads, and_read};
+ghost use Rattle.report_sections.specs.Proofs.{proof_read};
+ghost use Rattle.report_sections.specs.Certs.{clauses_read};
+ghost use Rattle.report_blocks.specs.Queries.{one_of, two_of, search_of, query_of, spent_of, refute_of, goals_from, blocked_of, search_rest, query_rest, query_read, spents_read, refutes_read, is_above};
 
-use aig_model::Goals;
+use aig_model::{Goals, LatchClauses};
 use ketch_base::OutOfMemory;
-use report_lines::{
-    LineWords, ReportFault, TextLines, behind_name, last, read_count, small, take_small,
-};
-use report_sections::{read_clauses, read_proof};
+use lrat_text::Proof;
+use report_lines::{LineWords, ReportFault, TextLines, behind_name, last, small, take_small};
+use report_sections::{ItemReader, read_clauses, read_proof, read_section};
 use report_text::{Block, BlockName, Blocks};
 use std::alloc::Global;
 
@@ -154,38 +155,28 @@ fn search(alloc: Global, lines: &mut TextLines<'_>, name: BlockName) -> Result<B
     })
 }
 
-fn kept(
+/// So many clauses, and the proof that follows them.
+fn clauses_and_proof(
     alloc: Global,
     lines: &mut TextLines<'_>,
-    place: u32,
     count: u32,
-) -> Result<Block, ReportFault>
-    ensures { Gives result lines.new (clauses_rest (λ clauses. names.Kept place clauses) count lines.old) }
+) -> Result<(LatchClauses, Proof), ReportFault>
+    ensures { Gives result lines.new (and_read (clauses_read count lines.old) proof_read) }
 {
     let clauses = read_clauses(alloc, lines, count)?;
     let proof = read_proof(alloc, lines)?;
-    Ok(Block {
-        name: BlockName::Kept { place, clauses },
-        blocked: Goals::new(alloc),
-        proof,
-    })
+    Ok((clauses, proof))
 }
 
-fn excludes(
-    alloc: Global,
-    lines: &mut TextLines<'_>,
-    goal: u32,
-    count: u32,
-) -> Result<Block, ReportFault>
-    ensures { Gives result lines.new (clauses_rest (λ clauses. names.Excludes goal clauses) count lines.old) }
+/// A query that leaves no goals out.
+fn over_clauses(alloc: Global, name: BlockName, proof: Proof) -> Block
+    ensures { result ≡ record { name = name; blocked = []; proof = proof } }
 {
-    let clauses = read_clauses(alloc, lines, count)?;
-    let proof = read_proof(alloc, lines)?;
-    Ok(Block {
-        name: BlockName::Excludes { goal, clauses },
+    Block {
+        name,
         blocked: Goals::new(alloc),
         proof,
-    })
+    }
 }
 
 /// What follows the first line of a query.
@@ -195,63 +186,72 @@ fn rest(alloc: Global, lines: &mut TextLines<'_>, line: QueryLine) -> Result<Blo
     match line {
         QueryLine::Sweep { step } => search(alloc, lines, BlockName::Sweep { step }),
         QueryLine::Hop { batch, step } => search(alloc, lines, BlockName::Hop { batch, step }),
-        QueryLine::Kept { place, count } => kept(alloc, lines, place, count),
-        QueryLine::Excludes { goal, count } => excludes(alloc, lines, goal, count),
+        QueryLine::Kept { place, count } => {
+            let (clauses, proof) = clauses_and_proof(alloc, lines, count)?;
+            let name = BlockName::Kept { place, clauses };
+            Ok(over_clauses(alloc, name, proof))
+        }
+        QueryLine::Excludes { goal, count } => {
+            let (clauses, proof) = clauses_and_proof(alloc, lines, count)?;
+            let name = BlockName::Excludes { goal, clauses };
+            Ok(over_clauses(alloc, name, proof))
+        }
     }
 }
 
-fn spent_line(lines: &mut TextLines<'_>) -> Result<QueryLine, ReportFault>
-    ensures { Gives result lines.new (line_read spent_of lines.old) }
+/// A query whose first line tells this.
+fn query(
+    alloc: Global,
+    lines: &mut TextLines<'_>,
+    line: Option<QueryLine>,
+) -> Result<Block, ReportFault>
+    ensures { Gives result lines.new (query_read line lines.old) }
 {
-    let line = spent_in(lines.words());
-    lines.settle(line)
-}
-
-fn refute_line(lines: &mut TextLines<'_>) -> Result<QueryLine, ReportFault>
-    ensures { Gives result lines.new (line_read refute_of lines.old) }
-{
-    let line = refute_in(lines.words());
-    lines.settle(line)
-}
-
-fn spent(alloc: Global, lines: &mut TextLines<'_>) -> Result<Block, ReportFault>
-    ensures { Gives result lines.new (spent_read lines.old) }
-{
-    let line = spent_line(lines)?;
+    let line = lines.settle(line)?;
     let block = rest(alloc, lines, line)?;
     Ok(block)
 }
 
-fn refute(alloc: Global, lines: &mut TextLines<'_>) -> Result<Block, ReportFault>
-    ensures { Gives result lines.new (refute_read lines.old) }
-{
-    let line = refute_line(lines)?;
-    let block = rest(alloc, lines, line)?;
-    Ok(block)
+#[derive(Drop)]
+struct SpentReader;
+
+impl ItemReader for SpentReader {
+    type Item = Block;
+
+    ghost use Rattle.report_blocks.specs.Queries.{spent_read};
+
+    ghost told = { λ _ _ p. spent_read p };
+
+    fn read(
+        &self,
+        alloc: Global,
+        lines: &mut TextLines<'_>,
+        _number: u32,
+    ) -> Result<Block, ReportFault> {
+        let line = spent_in(lines.words());
+        query(alloc, lines, line)
+    }
 }
 
-#[tactic(auto, using(report_sections::proofs::ItemsRead::item_steps))]
-fn spents(alloc: Global, lines: &mut TextLines<'_>) -> Result<Blocks, ReportFault>
-    ensures { Gives result lines.new (spents_read lines.old) }
-{
-    let count = read_count(b"spents", lines)?;
-    let mut blocks = Blocks::new(alloc);
-    for _number in 0..count {
-        blocks.push(spent(alloc, lines)?)?;
-    }
-    Ok(blocks)
-}
+#[derive(Drop)]
+struct RefuteReader;
 
-#[tactic(auto, using(report_sections::proofs::ItemsRead::item_steps))]
-fn refutes(alloc: Global, lines: &mut TextLines<'_>) -> Result<Blocks, ReportFault>
-    ensures { Gives result lines.new (refutes_read lines.old) }
-{
-    let count = read_count(b"refutes", lines)?;
-    let mut blocks = Blocks::new(alloc);
-    for _number in 0..count {
-        blocks.push(refute(alloc, lines)?)?;
+impl ItemReader for RefuteReader {
+    type Item = Block;
+
+    ghost use Rattle.report_blocks.specs.Queries.{refute_read};
+
+    ghost told = { λ _ _ p. refute_read p };
+
+    fn read(
+        &self,
+        alloc: Global,
+        lines: &mut TextLines<'_>,
+        _number: u32,
+    ) -> Result<Block, ReportFault> {
+        let line = refute_in(lines.words());
+        query(alloc, lines, line)
     }
-    Ok(blocks)
 }
 
 /// The section of the queries that ran out of lemmas.
@@ -259,7 +259,7 @@ pub fn read_spents(alloc: Global, lines: &mut TextLines<'_>) -> Result<Blocks, R
     ensures gives { Gives result lines.new (spents_read lines.old) }
     ensures reads { Reads (IsCounted FitsSpent) spents_lines lines.old result lines.new }
 {
-    spents(alloc, lines)
+    read_section(alloc, lines, b"spents", &SpentReader)
 }
 
 /// The section of the queries that have no model.
@@ -267,5 +267,5 @@ pub fn read_refutes(alloc: Global, lines: &mut TextLines<'_>) -> Result<Blocks, 
     ensures gives { Gives result lines.new (refutes_read lines.old) }
     ensures reads { Reads (IsCounted FitsRefute) refutes_lines lines.old result lines.new }
 {
-    refutes(alloc, lines)
+    read_section(alloc, lines, b"refutes", &RefuteReader)
 }

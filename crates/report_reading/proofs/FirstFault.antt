@@ -1,11 +1,11 @@
 -- A text has at most one first fault.
-use Rattle.std.proofs.Common.{◌≡◌, ◌⊎◌, inl, inr, ℕ, ◌+◌, ◌<◌, ◌≤◌, List, [], ◌∷◌, ◌++◌, take, drop, length, refl, sym, ap, ◌∙◌, subst, append_assoc, arith, length-append, length-take}
+use Rattle.std.proofs.Common.{◌≡◌, ℕ, ◌+◌, ◌<◌, ◌≤◌, List, [], ◌∷◌, ◌++◌, take, drop, length, sym, ap, ◌∙◌, subst, append_assoc, arith, length-append, length-take}
 use Rattle.std.proofs.lemmas.List.{append-nil, append_cancel_left, take-append-drop, take-take}
 use Rattle.std.proofs.lemmas.List.Concat.{flat_map-append}
 use Rattle.report_text.specs.Text.{Line, line, text, report_lines}
 use Rattle.report_lines.specs.Reading.{kind_at}
 use Rattle.report_lines.specs.declared.fault.ReportKind.{ReportKind}
-use Rattle.report_sections.proofs.Stops.{Longer, left_first, right_first, alike, lines-take, take-front}
+use Rattle.report_sections.proofs.Stops.{left_first, right_first, alike, lines-take}
 use Rattle.report_reading.specs.Spelled.{BeginsReport, IsFirstFault, OneFirstFault}
 use Rattle.report_reading.proofs.ReportRead.{report-is_spelling}
 

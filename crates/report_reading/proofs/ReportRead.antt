@@ -1,6 +1,6 @@
 -- A report is read as its lines tell it.
-use Rattle.std.proofs.Common.{lit<, ◌≡◌, ℕ, ◌<◌, ◌^◌, false, Option, List, [], ◌∷◌, ◌++◌, refl, sym, ap, ◌∙◌, subst, append_assoc, arith, Ok}
-use Rattle.std.specs.Prelude.{codes, decimal}
+use Rattle.std.proofs.Common.{lit<, ◌≡◌, ℕ, ◌<◌, false, Option, List, [], ◌∷◌, ◌++◌, refl, sym, ap, ◌∙◌, subst, append_assoc, Ok}
+use Rattle.std.specs.Prelude.{codes}
 use Rattle.std.proofs.lemmas.Fmt.{decimal_digit}
 use Rattle.sim_walk.specs.declared.options.Options.{Options}
 use Rattle.report_text.specs.declared.report.Report.{Report}
@@ -17,7 +17,7 @@ use Rattle.report_text.proofs.SeedLines.{seeds-is_spelling}
 use Rattle.report_text.proofs.ClauseLines.{invs-is_spelling}
 use Rattle.report_text.proofs.GoalLines.{goals-is_spelling}
 use Rattle.report_text.proofs.QueryLines.{spents-is_spelling, refutes-is_spelling}
-use Rattle.report_lines.specs.Reading.{Place, Read, ◌>>=◌, line_read}
+use Rattle.report_lines.specs.Reading.{Place, ◌>>=◌, line_read}
 use Rattle.report_sections.specs.declared.head.Size.{Size}
 use Rattle.report_sections.specs.declared.head.Counts.{Counts}
 use Rattle.report_sections.specs.Pieces.{ReadsTo, one, and_read}
@@ -26,7 +26,7 @@ use Rattle.report_sections.specs.HeadLines.{IsVersion, title_words, FitsSize, si
 use Rattle.report_sections.specs.History.{history_read}
 use Rattle.report_sections.specs.Seeds.{seeds_read}
 use Rattle.report_sections.specs.Certs.{invs_read}
-use Rattle.report_sections.proofs.LineWords.{IsLineParse, line-is_spelling}
+use Rattle.report_sections.proofs.LineWords.{line-is_spelling}
 use Rattle.report_sections.proofs.Combine.{Leads, leads-reads}
 use Rattle.report_sections.proofs.Pairs.{pair-reads, mapped-reads}
 use Rattle.report_sections.proofs.HeadRead.{title_parse, size_parse, options_parse, end_parse, title-reads, size-reads, options-reads, end-reads}

@@ -1,19 +1,19 @@
 -- What reading a whole text answers.
-use Rattle.std.proofs.Common.{◌≡◌, ◌≢◌, inl, inr, ℕ, zero, suc, ◌+◌, ◌<◌, ◌≤◌, List, [], ◌∷◌, ◌++◌, take, drop, length, refl, sym, ap, ◌∙◌, subst, append_assoc, arith, length-append, length-take, Result, Ok, Err}
+use Rattle.std.proofs.Common.{◌≡◌, ◌≢◌, inl, inr, ℕ, ◌+◌, ◌≤◌, List, [], ◌∷◌, ◌++◌, take, drop, length, refl, sym, ap, ◌∙◌, subst, append_assoc, arith, length-append, length-take, Result, Ok, Err}
 use Rattle.std.specs.Prelude.{IfOk, IfErr}
 use Rattle.std.proofs.lemmas.List.{append-nil, append_cancel_left, take-append-drop, take_all}
 use Rattle.std.proofs.lemmas.List.Concat.{flat_map-append}
 use Rattle.report_text.specs.declared.report.Report.{Report}
 use Rattle.report_text.specs.Form.{HasForm}
 use Rattle.report_text.specs.Text.{Line, line, text, report_lines, report_text}
-use Rattle.report_lines.specs.Reading.{Place, Read, fault_at, kind_at}
+use Rattle.report_lines.specs.Reading.{Place, Read, kind_at}
 use Rattle.report_lines.specs.declared.fault.ReportKind.{ReportKind}
 use Rattle.report_lines.specs.declared.fault.ReportFault.{ReportFault}
 use Rattle.report_lines.specs.declared.fault.ReportFault.TheVariants as faults
 use Rattle.report_sections.specs.Pieces.{Speak, IsStop, StopsAt, Passes, ReadsTo}
-use Rattle.report_sections.proofs.Stops.{Longer, left_first, right_first, alike, lines-take}
+use Rattle.report_sections.proofs.Stops.{left_first, right_first, alike, lines-take}
 use Rattle.report_reading.specs.Sections.{report_read, at_end, ended, whole_read}
-use Rattle.report_reading.specs.Spelled.{SpellsReport, BeginsReport, IsFirstFault, IsFault, Answers, GivesWhole}
+use Rattle.report_reading.specs.Spelled.{SpellsReport, IsFirstFault, IsFault, Answers, GivesWhole}
 use Rattle.report_reading.proofs.ReportRead.{report-reads, report-is_spelling}
 use Rattle.report_reading.proofs.FirstFault.{one_first_fault}
 use Rattle.report_text.proofs.Determines.{one_report}

@@ -1,5 +1,5 @@
 -- What the sections of a report tell, one behind the other.
-use Rattle.std.specs.Prelude.{ℕ, List, [], ◌∷◌, Ok, Err, Result}
+use Rattle.std.specs.Prelude.{ℕ, Option, List, [], ◌∷◌, Result, Ok, Err}
 use Rattle.sim_walk.specs.declared.options.Options.{Options}
 use Rattle.report_text.specs.declared.report.Report.{Report}
 use Rattle.board_core.specs.declared.entry.Entry.{Entry}
@@ -7,7 +7,6 @@ use Rattle.report_text.specs.declared.report.SeedLine.{SeedLine}
 use Rattle.report_text.specs.declared.report.Inv.{Inv}
 use Rattle.report_text.specs.declared.report.GoalBlock.{GoalBlock}
 use Rattle.report_text.specs.declared.report.Block.{Block}
-use Rattle.std.specs.Prelude.{Option}
 use Rattle.report_lines.specs.Reading.{Place, Read, ◌>>=◌, line_read, fault_at}
 use Rattle.report_lines.specs.declared.fault.ReportFault.{ReportFault}
 use Rattle.report_sections.specs.declared.head.Size.{Size}

@@ -18,7 +18,7 @@ use Rattle.report_sections.specs.Pieces.{Speak, Passes, ReadsTo, one}
 use Rattle.report_sections.specs.Proofs.{clause_of, proof_read}
 use Rattle.report_sections.specs.Certs.{kept_from, inv_read, invs_read}
 use Rattle.report_sections.proofs.Stops.{Same, stops_same}
-use Rattle.report_sections.proofs.Items.{AreItems, IsSmall, count_lines, count-is_spelling, passes_none}
+use Rattle.report_sections.proofs.Sections.{AreItems, IsSmall, count_lines, count-is_spelling, passes_none}
 use Rattle.report_sections.proofs.LineWords.{line-reads}
 use Rattle.report_sections.proofs.Numbers.{count_parse}
 use Rattle.report_sections.proofs.ProofRead.{clause_parse, proof-reads}

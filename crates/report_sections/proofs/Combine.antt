@@ -1,19 +1,19 @@
 -- Reading one piece after another.
-use Rattle.std.proofs.Common.{◌≡◌, ℕ, zero, suc, ◌+◌, ◌<◌, ◌^◌, List, [], ◌∷◌, ◌++◌, length, refl, sym, ap, ◌∙◌, subst, append_assoc, arith, Result, Ok, Err}
+use Rattle.std.proofs.Common.{◌≡◌, ℕ, zero, suc, ◌+◌, ◌<◌, ◌^◌, Option, List, [], ◌∷◌, ◌++◌, length, refl, sym, ap, ◌∙◌, subst, append_assoc, arith, Result, Ok, Err}
 use Rattle.std.specs.List.{AllByRecursion}
 use Rattle.std.proofs.lemmas.List.{append-nil, length-append}
 use Rattle.report_text.specs.Form.{IsCounted}
 use Rattle.report_text.specs.Text.{Word, Line, numbered_lines, section_lines, number_words}
 use Rattle.report_text.proofs.Lines.{IsWord, AreLines}
 use Rattle.report_text.proofs.Pieces.{IsSpelling, all-append}
-use Rattle.report_lines.specs.Words.{count_in}
-use Rattle.report_lines.specs.Reading.{Place, Read, ◌>>=◌, line_read, items_read, section_read, Gives, Fails}
+use Rattle.report_lines.specs.Words.{words_here, count_in}
+use Rattle.report_lines.specs.Reading.{Place, Read, ◌>>=◌, line_read, settled, items_read, section_read, Gives, Fails}
 use Rattle.report_lines.specs.declared.fault.ReportFault.{ReportFault}
 use Rattle.report_lines.specs.declared.fault.ReportFault.TheVariants as faults
 use Rattle.report_sections.specs.Items.{HasItems}
-use Rattle.report_sections.specs.Pieces.{Speak, StopsAt, Passes, ReadsTo, Faults, Reads}
+use Rattle.report_sections.specs.Pieces.{Speak, StopsAt, Passes, ReadsTo, Faults, Reads, one}
 use Rattle.report_sections.proofs.Stops.{Same, Then, stops_same, stops_first, stops_later}
-use Rattle.report_sections.proofs.Items.{AreItems, IsSmall, count_lines, passes_then, passes_none, stops_items, stops_count, stops_in_section, passes_section}
+use Rattle.report_sections.proofs.Sections.{AreItems, IsSmall, count_lines, passes_then, passes_none, stops_items, stops_count, stops_in_section, passes_section}
 use Rattle.report_sections.proofs.LineWords.{IsLineParse, line-reads}
 
 -- a piece, and what is read behind it
@@ -136,3 +136,9 @@ gives-fault Fits lines p faults.OutOfMemory read e h = tt
 pub gives-reads : {A : Type 0} (Fits : A → Type 0) (lines : A → List Line) (p q : Place) (r : Result A ReportFault) (read : Read A) → Gives r q read → ReadsTo Fits lines p read → Reads Fits lines p r q
 gives-reads {A} Fits lines p q (Ok a) read e h = subst (λ (r : Read A). ReadsTo Fits lines p r) e h
 gives-reads Fits lines p q (Err f) read e h = gives-fault Fits lines p f read e h
+
+-- a call that settles what its line tells
+pub settles-reads : {A : Type 0} {Fits : A → Type 0} {words : A → Line} {parse : Line → Option A} (p q : Place) (o : Option A) (r : Result A ReportFault) → IsLineParse Fits words parse → o ≡ parse (words_here p.bytes)
+    → Gives r q (settled p o p.bytes) → Reads Fits (one words) p r q
+settles-reads {A} {Fits} {words} {parse} p q o r good e given =
+    gives-reads Fits (one words) p q r (line_read parse p) (subst (λ (told : Option A). Gives r q (settled p told p.bytes)) e given) (line-reads Fits words parse p good)

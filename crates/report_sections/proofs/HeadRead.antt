@@ -6,19 +6,18 @@ use Rattle.std.proofs.lemmas.Fmt.{decimal_digit}
 use Rattle.aig_model.specs.Literal.{number}
 use Rattle.sim_walk.specs.declared.options.Options.{Options}
 use Rattle.report_text.specs.Form.{FitsOptions}
-use Rattle.report_text.specs.Text.{Word, options_words}
-use Rattle.report_text.proofs.Lines.{◌&◌, IsLine, word-from_test}
+use Rattle.report_text.specs.Text.{Word, Line, number_words, options_words}
+use Rattle.report_text.proofs.Lines.{◌&◌, IsWord, IsLine, word-from_test}
 use Rattle.report_text.proofs.Pieces.{number_words-is_line}
 use Rattle.report_lines.specs.Words.{◌>>?◌, count_in}
 use Rattle.report_lines.specs.Reading.{Place, line_read}
-use Rattle.report_sections.specs.declared.head.Size.{Size}
-use Rattle.report_sections.specs.declared.head.Counts.{Counts}
 use Rattle.report_sections.specs.Pieces.{ReadsTo, one}
 use Rattle.report_sections.specs.HeadLines.{IsVersion, title_words, FitsSize, size_words, FitsCounts, end_words}
-use Rattle.report_sections.specs.Head.{if_one, title_of, Three, to_size, size_of, to_counts, end_of, flag_of, OptionFields, to_options, options_of}
+use Rattle.report_sections.specs.Head.{if_one, title_of, Three, to_three, three_of, to_size, size_of, to_counts, end_of, flag_of, OptionFields, to_options, options_of}
 use Rattle.report_sections.proofs.LineWords.{IsLineParse, line-reads}
+use Rattle.report_sections.proofs.Sections.{IsSmall}
 use Rattle.report_sections.proofs.Numbers.{number_field, small_field, count_parse}
-use Rattle.report_sections.proofs.Parses.{IsField, bind-some, cond-some, name-or, field, and_parse, name_parse, map_parse, whole_parse}
+use Rattle.report_sections.proofs.Parses.{IsField, bind-some, cond-some, name-or, field, and_parse, name_parse, map_parse, whole_parse, line_map}
 
 -- ---- the version
 title_plain : (n : ℕ) → IsVersion n → IsLine (title_words n)
@@ -43,40 +42,45 @@ title_parse =
 pub title-reads : (p : Place) → ReadsTo IsVersion (one title_words) p (line_read title_of p)
 title-reads p = line-reads IsVersion title_words title_of p title_parse
 
--- ---- the size
-abbrev size_fields : Size → Three
-size_fields s = (s.inputs, (s.latches, s.signals))
+-- ---- three numbers
+abbrev AreThree : Three → Type 0
+AreThree t = IsSmall t.0 × IsSmall t.1 × IsSmall t.2
 
-size_plain : (s : Size) → FitsSize s → IsLine (size_words s)
-size_plain s f = number_words-is_line (codes "size") (s.inputs ∷ s.latches ∷ s.signals ∷ []) (word-from_test (codes "size") refl) ((omega (arith, f.inputs)) & (omega (arith, f.latches)) & (omega (arith, f.signals)) & tt)
+abbrev three_words : Word → Three → Line
+three_words name t = number_words name (t.0 ∷ t.1 ∷ t.2 ∷ [])
 
-pub size_parse : IsLineParse FitsSize size_words size_of
-size_parse =
-    let fields = name_parse (codes "size") (and_parse (field small_field) (and_parse (field small_field) (field small_field))) in
-    let sizes = map_parse FitsSize size_words to_size size_fields fields (record {
-      there = λ t f. (record { inputs = f.0; latches = f.1.0; signals = f.1.1 }, refl);
-      back = λ s f. ((f.inputs, (f.latches, f.signals)), refl, refl);
+three_plain : (name : Word) → IsWord name → (t : Three) → AreThree t → IsLine (three_words name t)
+three_plain name w t f =
+    let first : t.0 < 2 ^ 32 = f.0 in
+    let second : t.1 < 2 ^ 32 = f.1 in
+    let third : t.2 < 2 ^ 32 = f.2 in
+    number_words-is_line name (t.0 ∷ t.1 ∷ t.2 ∷ []) w ((omega arith) & (omega arith) & (omega arith) & tt)
+
+three_parse : (name : Word) → IsWord name → IsLineParse AreThree (three_words name) (three_of name)
+three_parse name w =
+    let fields = name_parse name (and_parse (field small_field) (and_parse (field small_field) (field small_field))) in
+    let all = map_parse AreThree (three_words name) to_three (λ t. (t.0, (t.1, t.2))) fields (record {
+      there = λ t f. ((f.0, f.1.0, f.1.1), refl);
+      back = λ t f. ((f.0, (f.1, f.2)), refl, refl);
     }) in
-    whole_parse FitsSize size_words _ (record { inputs = 0; latches = 0; signals = 0 }) sizes size_plain (record { inputs = lit< tt; latches = lit< tt; signals = lit< tt })
+    whole_parse AreThree (three_words name) _ (0, 0, 0) all (three_plain name w) (lit< tt, lit< tt, lit< tt)
+
+-- ---- the size
+pub size_parse : IsLineParse FitsSize size_words size_of
+size_parse = line_map FitsSize size_words to_size (λ s. (s.inputs, s.latches, s.signals)) (three_parse (codes "size") (word-from_test (codes "size") refl)) (record {
+  there = λ t f. (record { inputs = f.0; latches = f.1; signals = f.2 }, refl);
+  back = λ s f. ((f.inputs, f.latches, f.signals), refl, refl);
+})
 
 pub size-reads : (p : Place) → ReadsTo FitsSize (one size_words) p (line_read size_of p)
 size-reads p = line-reads FitsSize size_words size_of p size_parse
 
 -- ---- the end
-abbrev count_fields : Counts → Three
-count_fields c = (c.reached, (c.unreachable, c.unsettled))
-
-end_plain : (c : Counts) → FitsCounts c → IsLine (end_words c)
-end_plain c f = number_words-is_line (codes "end") (c.reached ∷ c.unreachable ∷ c.unsettled ∷ []) (word-from_test (codes "end") refl) ((omega (arith, f.reached)) & (omega (arith, f.unreachable)) & (omega (arith, f.unsettled)) & tt)
-
 pub end_parse : IsLineParse FitsCounts end_words end_of
-end_parse =
-    let fields = name_parse (codes "end") (and_parse (field small_field) (and_parse (field small_field) (field small_field))) in
-    let counts = map_parse FitsCounts end_words to_counts count_fields fields (record {
-      there = λ t f. (record { reached = f.0; unreachable = f.1.0; unsettled = f.1.1 }, refl);
-      back = λ c f. ((f.reached, (f.unreachable, f.unsettled)), refl, refl);
-    }) in
-    whole_parse FitsCounts end_words _ (record { reached = 0; unreachable = 0; unsettled = 0 }) counts end_plain (record { reached = lit< tt; unreachable = lit< tt; unsettled = lit< tt })
+end_parse = line_map FitsCounts end_words to_counts (λ c. (c.reached, c.unreachable, c.unsettled)) (three_parse (codes "end") (word-from_test (codes "end") refl)) (record {
+  there = λ t f. (record { reached = f.0; unreachable = f.1; unsettled = f.2 }, refl);
+  back = λ c f. ((f.reached, f.unreachable, f.unsettled), refl, refl);
+})
 
 pub end-reads : (p : Place) → ReadsTo FitsCounts (one end_words) p (line_read end_of p)
 end-reads p = line-reads FitsCounts end_words end_of p end_parse

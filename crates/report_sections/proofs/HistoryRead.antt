@@ -16,7 +16,7 @@ use Rattle.report_lines.specs.Words.{small_of}
 use Rattle.report_lines.specs.Reading.{Place, line_read}
 use Rattle.report_sections.specs.Pieces.{ReadsTo}
 use Rattle.report_sections.specs.History.{behind_front, kind_of, from_front, numbered_of, source_of, Fields, to_entry, entry_of, history_read}
-use Rattle.report_sections.proofs.Items.{AreItems}
+use Rattle.report_sections.proofs.Sections.{AreItems}
 use Rattle.report_sections.proofs.LineWords.{IsLineParse, line-reads}
 use Rattle.report_sections.proofs.Numbers.{number_field, small_field, count_parse}
 use Rattle.report_sections.proofs.Parses.{IsField, some-some, name-or, field, and_parse, map_parse, whole_parse}

@@ -2,7 +2,7 @@ pub mod CertsRead
 pub mod Combine
 pub mod HeadRead
 pub mod HistoryRead
-pub mod Items
+pub mod Sections
 pub mod ItemsRead
 pub mod LineWords
 pub mod Numbers

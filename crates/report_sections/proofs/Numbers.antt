@@ -13,7 +13,7 @@ use Rattle.report_text.proofs.Pieces.{number_words-is_line}
 use Rattle.report_lines.specs.Words.{if_small, small_of, if_written, signed_of, word, named, count_in}
 use Rattle.report_sections.proofs.LineWords.{IsLineParse}
 use Rattle.report_sections.proofs.Parses.{IsField, cond-some, word_parse, named_parse, whole_parse}
-use Rattle.report_sections.proofs.Items.{IsSmall}
+use Rattle.report_sections.proofs.Sections.{IsSmall}
 
 below-true : (m n : ℕ) → nat_lt m n ≡ true → m < n
 below-true m n e = grind (arith, nat_tests)

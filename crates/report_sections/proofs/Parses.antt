@@ -1,6 +1,7 @@
 -- Words that tell a value: what is read of them is what they tell, and what is told is read.
 use Rattle.std.proofs.Common.{◌≡◌, ◌⊎◌, inl, inr, Bool, true, false, cond, Option, Some, None, [], ◌∷◌, ◌++◌, refl, sym, ap, ◌∙◌, subst, subst₂, append_assoc}
 use Rattle.std.specs.Prelude.{bytes_eq}
+use Rattle.std.specs.Option.{option_map}
 use Rattle.std.proofs.lemmas.List.{append-nil}
 use Rattle.std.proofs.lemmas.Slice.Eq.{bytes_eq-Decides}
 use Rattle.report_lines.specs.Words.{Word, Line, ◌>>?◌, with_rest, word, both, mapped, behind_name, named, last, whole_line}
@@ -25,9 +26,16 @@ pub bind-some : {A B : Type 0} (o : Option A) (f : A → Option B) (b : B) → (
 bind-some None f b e = cc
 bind-some (Some a) f b e = (a, refl, e)
 
+pub mapped-some : {A B : Type 0} (f : A → B) (o : Option A) (b : B) → option_map f o ≡ Some b → (a : A) × (o ≡ Some a) × (f a ≡ b)
+mapped-some f None b e = cc
+mapped-some f (Some a) b e = (a, refl, some-some (f a) b e)
+
+pub cond-told : {A : Type 0} (t : Bool) (o : Option A) (b : A) → cond t o None ≡ Some b → (t ≡ true) × (o ≡ Some b)
+cond-told true o b e = (refl, e)
+cond-told false o b e = cc
+
 pub cond-some : {A : Type 0} (t : Bool) (a b : A) → cond t (Some a) None ≡ Some b → (t ≡ true) × (a ≡ b)
-cond-some true a b e = (refl, some-some a b e)
-cond-some false a b e = cc
+cond-some t a b e = let told = cond-told t (Some a) b e in (told.0, some-some a b told.1)
 
 -- ---- one word
 word-tells : {A : Type 0} (Fits : A → Type 0) (form : A → Word) (read : Word → Option A) (w : Word) (ws : Line) (o : Option A) (a : A) (r : Line) → IsField Fits form read → read w ≡ o → with_rest ws o ≡ Some (a, r)
@@ -113,20 +121,48 @@ pub last-tells : {A : Type 0} (x : A) (l : Line) (a : A) → last x l ≡ Some a
 last-tells x [] a e = (some-some x a e, refl)
 last-tells x (w ∷ ws) a e = cc
 
+pub whole-tells : {A : Type 0} {F : A → Type 0} {v : A → Line} {p : Line → Option (A × Line)} → IsParse F v p → (ws : Line) (a : A) → whole_line p ws ≡ Some a → F a × (v a ≡ ws)
+whole-tells {A} {F} {v} {p} good ws a e =
+    let first = bind-some (p ws) (λ (b : A × Line). last b.0 b.1) a e in
+    let end = last-tells first.0.0 first.0.1 a first.2 in
+    let both = good.tells ws first.0.0 first.0.1 first.1 in
+    let whole : v first.0.0 ≡ ws = sym (append-nil (v first.0.0)) ∙ (ap (λ (l : Line). v first.0.0 ++ l) (sym end.1) ∙ both.1) in
+    subst (λ (c : A). F c × (v c ≡ ws)) end.0 (both.0, whole)
+
+pub whole-back : {A : Type 0} {F : A → Type 0} {v : A → Line} {p : Line → Option (A × Line)} → IsParse F v p → (a : A) → F a → whole_line p (v a) ≡ Some a
+whole-back {A} {F} {v} {p} good a f =
+    let after : (A × Line) → Option A = λ b. last b.0 b.1 in
+    ap (λ (l : Line). p l >>? after) (sym (append-nil (v a))) ∙ ap (λ (o : Option (A × Line)). o >>? after) (good.back a [] f)
+
 pub whole_parse : {A : Type 0} (F : A → Type 0) (v : A → Line) (p : Line → Option (A × Line)) (some : A) → IsParse F v p → ((a : A) → F a → IsLine (v a)) → F some → IsLineParse F v (whole_line p)
-whole_parse {A} F v p some good plain fits = record {
-  plain = plain;
-  tells = λ ws a e.
-      let first = bind-some (p ws) (λ (b : A × Line). last b.0 b.1) a e in
-      let end = last-tells first.0.0 first.0.1 a first.2 in
-      let both = good.tells ws first.0.0 first.0.1 first.1 in
-      let whole : v first.0.0 ≡ ws = sym (append-nil (v first.0.0)) ∙ (ap (λ (l : Line). v first.0.0 ++ l) (sym end.1) ∙ both.1) in
-      subst (λ (c : A). F c × (v c ≡ ws)) end.0 (both.0, whole);
-  back = λ a f.
-      let after : (A × Line) → Option A = λ b. last b.0 b.1 in
-      ap (λ (l : Line). p l >>? after) (sym (append-nil (v a))) ∙ ap (λ (o : Option (A × Line)). o >>? after) (good.back a [] f);
-  some = some;
-  some_fits = fits;
+whole_parse F v p some good plain fits = record { plain = plain; tells = whole-tells good; back = whole-back good; some = some; some_fits = fits }
+
+-- a whole line of another shape
+last-mapped : {A B : Type 0} (f : A → B) (a : A) (ws : Line) → last (f a) ws ≡ option_map f (last a ws)
+last-mapped f a [] = refl
+last-mapped f a (w ∷ ws) = refl
+
+rest-mapped : {A B : Type 0} (f : A → B) (o : Option (A × Line))
+    → (let moved : (A × Line) → Option (B × Line) = λ a. Some (f a.0, a.1) in (o >>? moved) >>? λ b. last b.0 b.1) ≡ option_map f (o >>? λ a. last a.0 a.1)
+rest-mapped f None = refl
+rest-mapped f (Some a) = last-mapped f a.0 a.1
+
+pub whole-mapped : {A B : Type 0} (f : A → B) (p : Line → Option (A × Line)) (ws : Line) → whole_line (mapped f p) ws ≡ option_map f (whole_line p ws)
+whole-mapped f p ws = rest-mapped f (p ws)
+
+pub line_map : {A B : Type 0} {F : A → Type 0} {v : A → Line} {p : Line → Option A} (G : B → Type 0) (w : B → Line) (f : A → B) (g : B → A) → IsLineParse F v p → Maps F v G w f g → IsLineParse G w (λ ws. option_map f (p ws))
+line_map {A} {B} {F} {v} {p} G w f g good maps = record {
+  plain = λ b h. let from = maps.back b h in subst IsLine from.1 (good.plain (g b) from.0);
+  tells = λ ws b e.
+      let made = mapped-some f (p ws) b e in
+      let told = good.tells ws made.0 made.1 in
+      let to = maps.there made.0 told.0 in
+      subst (λ (c : B). G c × (w c ≡ ws)) made.2 (to.0, to.1 ∙ told.1);
+  back = λ b h.
+      let from = maps.back b h in
+      ap (λ (l : Line). option_map f (p l)) (sym from.1) ∙ (ap (option_map f) (good.back (g b) from.0) ∙ ap (λ (c : B). Some c) from.2);
+  some = f good.some;
+  some_fits = (maps.there good.some good.some_fits).0;
 }
 
 -- ---- the same, with what they are of left out
@@ -142,6 +178,15 @@ name_parse {A} {F} {v} {p} name good = named_parse F v name p good
 
 pub map_parse : {A B : Type 0} {F : A → Type 0} {v : A → Line} {p : Line → Option (A × Line)} (G : B → Type 0) (w : B → Line) (f : A → B) (g : B → A) → IsParse F v p → Maps F v G w f g → IsParse G w (mapped f p)
 map_parse {A} {B} {F} {v} {p} G w f g good maps = mapped_parse F v G w f g p good maps
+
+-- ---- a word of another shape
+pub made-tells : {A B : Type 0} {F : A → Type 0} {form : A → Word} {read : Word → Option A} (G : B → Type 0) (text : B → Word) → IsField F form read → (make : A → B) → ((a : A) → F a → G (make a) × (text (make a) ≡ form a))
+    → (w : Word) (b : B) → option_map make (read w) ≡ Some b → G b × (text b ≡ w)
+made-tells {A} {B} {F} {form} {read} G text good make fits w b e =
+    let made = mapped-some make (read w) b e in
+    let told = good.tells w made.0 made.1 in
+    let to = fits made.0 told.0 in
+    subst (λ (c : B). G c × (text c ≡ w)) made.2 (to.0, to.1 ∙ told.1)
 
 -- ---- a word that stands for one value, or else another
 pub name-or : {A : Type 0} (Fits : A → Type 0) (form : A → Word) (w name : Word) (a b : A) (o : Option A) → Fits a → form a ≡ name → cond (bytes_eq w name) (Some a) o ≡ Some b → (Fits b × (form b ≡ w)) ⊎ (o ≡ Some b)

@@ -24,7 +24,7 @@ use Rattle.report_lines.specs.Reading.{Place, line_read}
 use Rattle.report_sections.specs.Pieces.{Speak, ReadsTo}
 use Rattle.report_sections.specs.Proofs.{if_hint, hint_of, if_literal, literal_of, if_id, id_of, addition_of, deletion_of, after_id, step_of, proof_read, clause_of}
 use Rattle.report_sections.proofs.Stops.{Same, stops_same}
-use Rattle.report_sections.proofs.Items.{AreItems}
+use Rattle.report_sections.proofs.Sections.{AreItems}
 use Rattle.report_sections.proofs.LineWords.{IsLineParse, line-reads}
 use Rattle.report_sections.proofs.Numbers.{IsLong, HasSize, number_field, signed_field, count_parse}
 use Rattle.report_sections.proofs.Parses.{IsField, some-some, bind-some, cond-some, field, last-tells, whole_parse}

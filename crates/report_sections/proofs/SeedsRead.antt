@@ -19,10 +19,10 @@ use Rattle.report_lines.specs.Reading.{Place, ◌>>=◌, line_read}
 use Rattle.report_sections.specs.Items.{HasItems}
 use Rattle.report_sections.specs.Pieces.{ReadsTo, one}
 use Rattle.report_sections.specs.Seeds.{bit_of, bits_from, bits_of, bits_line_of, bits_read, rows_read, bound_of, if_same, rows_of, seed_line_of, Values, values_read, to_seed, seed_rest, seed_read, seeds_read}
-use Rattle.report_sections.proofs.Items.{AreItems, IsSmall, passes_none}
+use Rattle.report_sections.proofs.Sections.{AreItems, IsSmall, passes_none}
 use Rattle.report_sections.proofs.LineWords.{IsLineParse, line-reads}
 use Rattle.report_sections.proofs.Numbers.{small_field, count_parse}
-use Rattle.report_sections.proofs.Parses.{IsField, some-some, cond-some, name-or, field, and_parse, name_parse, map_parse, whole_parse}
+use Rattle.report_sections.proofs.Parses.{IsField, some-some, cond-told, cond-some, name-or, made-tells, field, and_parse, name_parse, map_parse, whole_parse}
 use Rattle.report_sections.proofs.Until.{kept_field, words-differ}
 use Rattle.report_sections.proofs.Pairs.{pair-reads, mapped-reads}
 use Rattle.report_sections.proofs.Combine.{items-reads, section-reads, Leads, leads-reads}
@@ -66,14 +66,10 @@ bits-back (z ∷ zs) xs =
 abbrev pub HasWidth : ℕ → List Bool → Type 0
 HasWidth width bits = length bits ≡ width
 
-if-told : (t : Bool) (o : Option (List Bool)) (ys : List Bool) → cond t o None ≡ Some ys → (t ≡ true) × (o ≡ Some ys)
-if-told true o ys e = (refl, e)
-if-told false o ys e = cc
-
 pub bits_field : (width : ℕ) → IsField (HasWidth width) bits_line (bits_of width)
 bits_field width = record {
   tells = λ w ys e.
-      let both = if-told (nat_eq (length w) width) (bits_from [] w) ys e in
+      let both = cond-told (nat_eq (length w) width) (bits_from [] w) ys e in
       let told = bits-told w [] ys both.1 in
       let word : map digit ys ≡ w = ap (map digit) told.all ∙ told.word in
       (sym (length-map ys digit) ∙ (ap length word ∙ eqb-true (length w) width both.0), word);
@@ -121,19 +117,12 @@ rows-are_spelling width n = record { plain = rows-plain width n; tells = rows-to
 abbrev pub FitsBound : Option ℕ → Type 0
 FitsBound o = IfSome o (λ n. n < 2 ^ 32)
 
-some-bound : (w : Word) (o : Option ℕ) (b : Option ℕ) → small_of w ≡ o → option_map (λ n. Some n) o ≡ Some b → FitsBound b × (bound_text b ≡ w)
-unfolding bound_text
-some-bound w None b is e = cc
-some-bound w (Some n) b is e =
-    let told = small_field.tells w n is in
-    subst (λ (c : Option ℕ). FitsBound c × (bound_text c ≡ w)) (some-some (Some n) b e) (told.0, told.1)
-
 bound-tells : (w : Word) (b : Option ℕ) → bound_of w ≡ Some b → FitsBound b × (bound_text b ≡ w)
 unfolding bound_text
 bound-tells w b e =
     elim (name-or FitsBound bound_text w (codes "none") None b (option_map (λ n. Some n) (small_of w)) tt refl e) as (λ _. FitsBound b × (bound_text b ≡ w)) [
       | inl g ↦ g
-      | inr h ↦ some-bound w (small_of w) b refl h
+      | inr h ↦ made-tells FitsBound bound_text small_field (λ n. Some n) (λ n f. (f, refl)) w b h
     ]
 
 bound-back : (b : Option ℕ) → FitsBound b → bound_of (bound_text b) ≡ Some b

@@ -1,5 +1,6 @@
 -- What the lines of a report's head and its last line tell.
 use Rattle.std.specs.Prelude.{ℕ, Bool, true, false, nat_eq, bytes_eq, codes, Option, Some, None, if◌then◌else◌}
+use Rattle.std.specs.Option.{option_map}
 use Rattle.text_words.specs.Numbers.{decimal_number_of}
 use Rattle.sim_walk.specs.declared.options.Options.{Options}
 use Rattle.report_lines.specs.Words.{Word, Line, ◌>>?◌, word, both, mapped, named, whole_line, small_of, count_in}
@@ -14,19 +15,26 @@ abbrev pub title_of : Line → Option ℕ
 title_of ws = count_in (codes "ketch") ws >>? if_one
 
 abbrev pub Three : Type 0
-Three = ℕ × (ℕ × ℕ)
+Three = ℕ × ℕ × ℕ
+
+abbrev pub to_three : ℕ × (ℕ × ℕ) → Three
+to_three t = (t.0, t.1.0, t.1.1)
+
+-- the numbers of a line with this name and three numbers
+abbrev pub three_of : Word → Line → Option Three
+three_of name ws = whole_line (mapped to_three (named name (both (word small_of) (both (word small_of) (word small_of))))) ws
 
 abbrev pub to_size : Three → Size
-to_size t = record { inputs = t.0; latches = t.1.0; signals = t.1.1 }
+to_size t = record { inputs = t.0; latches = t.1; signals = t.2 }
 
 abbrev pub size_of : Line → Option Size
-size_of ws = whole_line (mapped to_size (named (codes "size") (both (word small_of) (both (word small_of) (word small_of))))) ws
+size_of ws = option_map to_size (three_of (codes "size") ws)
 
 abbrev pub to_counts : Three → Counts
-to_counts t = record { reached = t.0; unreachable = t.1.0; unsettled = t.1.1 }
+to_counts t = record { reached = t.0; unreachable = t.1; unsettled = t.2 }
 
 abbrev pub end_of : Line → Option Counts
-end_of ws = whole_line (mapped to_counts (named (codes "end") (both (word small_of) (both (word small_of) (word small_of))))) ws
+end_of ws = option_map to_counts (three_of (codes "end") ws)
 
 abbrev pub flag_of : Word → Option Bool
 flag_of w = if bytes_eq w (codes "0") then Some false else (if bytes_eq w (codes "1") then Some true else None)

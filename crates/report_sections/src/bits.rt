@@ -70,7 +70,7 @@ pub fn read_bits(alloc: Global, lines: &mut TextLines<'_>, width: u32) -> Result
 
 /// So many rows of one width.
 #[tactic(auto, using(crate::proofs::ItemsRead::item_steps))]
-pub fn read_rows(
+pub(crate) fn read_rows(
     alloc: Global,
     lines: &mut TextLines<'_>,
     width: u32,

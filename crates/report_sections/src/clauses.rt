@@ -9,6 +9,7 @@ ghost use Rattle.report_sections.specs.Pieces.{Reads};
 ghost use Rattle.report_sections.specs.Proofs.{literal_of, clause_of};
 ghost use Rattle.report_sections.specs.Certs.{clauses_read, inv_read, invs_read};
 
+use crate::items::{ItemReader, read_items, read_section};
 use crate::proof::{literal, read_proof};
 use aig_model::{LatchClause, LatchClauses};
 use ketch_base::OutOfMemory;
@@ -51,8 +52,28 @@ fn read_clause(alloc: Global, lines: &mut TextLines<'_>) -> Result<LatchClause, 
     lines.settle(clause)
 }
 
+#[derive(Drop)]
+struct ClauseReader;
+
+impl ItemReader for ClauseReader {
+    type Item = LatchClause;
+
+    ghost use Rattle.report_lines.specs.Reading.{line_read};
+    ghost use Rattle.report_sections.specs.Proofs.{clause_of};
+
+    ghost told = { λ _ _ p. line_read clause_of p };
+
+    fn read(
+        &self,
+        alloc: Global,
+        lines: &mut TextLines<'_>,
+        _number: u32,
+    ) -> Result<LatchClause, ReportFault> {
+        read_clause(alloc, lines)
+    }
+}
+
 /// So many clauses.
-#[tactic(auto, using(crate::proofs::ItemsRead::item_steps))]
 pub fn read_clauses(
     alloc: Global,
     lines: &mut TextLines<'_>,
@@ -60,11 +81,7 @@ pub fn read_clauses(
 ) -> Result<LatchClauses, ReportFault>
     ensures { Gives result lines.new (clauses_read count lines.old) }
 {
-    let mut clauses = LatchClauses::new(alloc);
-    for _number in 0..count {
-        clauses.push(read_clause(alloc, lines)?)?;
-    }
-    Ok(clauses)
+    read_items(alloc, lines, &ClauseReader, count)
 }
 
 #[tactic(auto, using(crate::proofs::CertsRead::kept_steps))]
@@ -83,16 +100,24 @@ fn certificate(alloc: Global, lines: &mut TextLines<'_>) -> Result<Inv, ReportFa
     Ok(Inv { clauses, kept })
 }
 
-#[tactic(auto, using(crate::proofs::ItemsRead::item_steps))]
-fn certificates(alloc: Global, lines: &mut TextLines<'_>) -> Result<Invs, ReportFault>
-    ensures { Gives result lines.new (invs_read lines.old) }
-{
-    let count = read_count(b"invs", lines)?;
-    let mut invs = Invs::new(alloc);
-    for _number in 0..count {
-        invs.push(certificate(alloc, lines)?)?;
+#[derive(Drop)]
+struct CertificateReader;
+
+impl ItemReader for CertificateReader {
+    type Item = Inv;
+
+    ghost use Rattle.report_sections.specs.Certs.{inv_read};
+
+    ghost told = { λ _ _ p. inv_read p };
+
+    fn read(
+        &self,
+        alloc: Global,
+        lines: &mut TextLines<'_>,
+        _number: u32,
+    ) -> Result<Inv, ReportFault> {
+        certificate(alloc, lines)
     }
-    Ok(invs)
 }
 
 /// The section of the certificates.
@@ -100,5 +125,5 @@ pub fn read_invs(alloc: Global, lines: &mut TextLines<'_>) -> Result<Invs, Repor
     ensures gives { Gives result lines.new (invs_read lines.old) }
     ensures reads { Reads (IsCounted FitsInv) invs_lines lines.old result lines.new }
 {
-    certificates(alloc, lines)
+    read_section(alloc, lines, b"invs", &CertificateReader)
 }

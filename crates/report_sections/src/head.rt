@@ -5,7 +5,7 @@ ghost use Rattle.report_text.specs.Form.{FitsOptions};
 ghost use Rattle.report_text.specs.Text.{options_words};
 ghost use Rattle.report_lines.specs.Reading.{Gives, line_read};
 ghost use Rattle.report_sections.specs.Pieces.{Reads, one};
-ghost use Rattle.report_sections.specs.Head.{title_of, size_of, end_of, flag_of, options_of};
+ghost use Rattle.report_sections.specs.Head.{title_of, three_of, size_of, end_of, flag_of, options_of};
 ghost use Rattle.report_sections.specs.HeadLines.{FitsSize, size_words, FitsCounts, end_words, IsVersion, title_words};
 
 use report_lines::{
@@ -36,38 +36,37 @@ fn title_in(words: LineWords<'_>) -> Option<u32>
     if version == 1 { Some(version) } else { None }
 }
 
+/// The numbers of a line with this name and three numbers.
+fn three_in(name: &[u8], words: LineWords<'_>) -> Option<(u32, u32, u32)>
+    ensures { result ≡ three_of name.now words.entry }
+{
+    let mut words = behind_name(name, words)?;
+    let first = take_small(&mut words)?;
+    let second = take_small(&mut words)?;
+    let third = take_small(&mut words)?;
+    last((first, second, third), words)
+}
+
 fn size_in(words: LineWords<'_>) -> Option<Size>
     ensures { result ≡ size_of words.entry }
 {
-    let mut words = behind_name(b"size", words)?;
-    let inputs = take_small(&mut words)?;
-    let latches = take_small(&mut words)?;
-    let signals = take_small(&mut words)?;
-    last(
-        Size {
-            inputs,
-            latches,
-            signals,
-        },
-        words,
-    )
+    let (inputs, latches, signals) = three_in(b"size", words)?;
+    Some(Size {
+        inputs,
+        latches,
+        signals,
+    })
 }
 
 fn end_in(words: LineWords<'_>) -> Option<Counts>
     ensures { result ≡ end_of words.entry }
 {
-    let mut words = behind_name(b"end", words)?;
-    let reached = take_small(&mut words)?;
-    let unreachable = take_small(&mut words)?;
-    let unsettled = take_small(&mut words)?;
-    last(
-        Counts {
-            reached,
-            unreachable,
-            unsettled,
-        },
-        words,
-    )
+    let (reached, unreachable, unsettled) = three_in(b"end", words)?;
+    Some(Counts {
+        reached,
+        unreachable,
+        unsettled,
+    })
 }
 
 fn flag(word: &[u8]) -> Option<bool>
@@ -109,26 +108,13 @@ fn options_in(words: LineWords<'_>) -> Option<Options>
     last(options, words)
 }
 
-fn title_line(lines: &mut TextLines<'_>) -> Result<u32, ReportFault>
-    ensures { Gives result lines.new (line_read title_of lines.old) }
-{
-    let version = title_in(lines.words());
-    lines.settle(version)
-}
-
 /// The version of the format.
 pub fn read_title(lines: &mut TextLines<'_>) -> Result<u32, ReportFault>
     ensures gives { Gives result lines.new (line_read title_of lines.old) }
     ensures reads { Reads IsVersion (one title_words) lines.old result lines.new }
 {
-    title_line(lines)
-}
-
-fn size_line(lines: &mut TextLines<'_>) -> Result<Size, ReportFault>
-    ensures { Gives result lines.new (line_read size_of lines.old) }
-{
-    let size = size_in(lines.words());
-    lines.settle(size)
+    let version = title_in(lines.words());
+    lines.settle(version)
 }
 
 /// The line of the size.
@@ -136,14 +122,8 @@ pub fn read_size(lines: &mut TextLines<'_>) -> Result<Size, ReportFault>
     ensures gives { Gives result lines.new (line_read size_of lines.old) }
     ensures reads { Reads FitsSize (one size_words) lines.old result lines.new }
 {
-    size_line(lines)
-}
-
-fn options_line(lines: &mut TextLines<'_>) -> Result<Options, ReportFault>
-    ensures { Gives result lines.new (line_read options_of lines.old) }
-{
-    let options = options_in(lines.words());
-    lines.settle(options)
+    let size = size_in(lines.words());
+    lines.settle(size)
 }
 
 /// The line of the options.
@@ -151,14 +131,8 @@ pub fn read_options(lines: &mut TextLines<'_>) -> Result<Options, ReportFault>
     ensures gives { Gives result lines.new (line_read options_of lines.old) }
     ensures reads { Reads FitsOptions (one options_words) lines.old result lines.new }
 {
-    options_line(lines)
-}
-
-fn end_line(lines: &mut TextLines<'_>) -> Result<Counts, ReportFault>
-    ensures { Gives result lines.new (line_read end_of lines.old) }
-{
-    let counts = end_in(lines.words());
-    lines.settle(counts)
+    let options = options_in(lines.words());
+    lines.settle(options)
 }
 
 /// The last line.
@@ -166,5 +140,6 @@ pub fn read_end(lines: &mut TextLines<'_>) -> Result<Counts, ReportFault>
     ensures gives { Gives result lines.new (line_read end_of lines.old) }
     ensures reads { Reads FitsCounts (one end_words) lines.old result lines.new }
 {
-    end_line(lines)
+    let counts = end_in(lines.words());
+    lines.settle(counts)
 }

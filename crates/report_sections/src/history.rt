@@ -2,17 +2,16 @@
 
 ghost use Rattle.std.specs.Prelude.{◌≡◌};
 ghost use Rattle.std.specs.Option.{option_map};
-ghost use Rattle.report_lines.specs.Reading.{Gives, line_read};
+ghost use Rattle.report_lines.specs.Reading.{Gives};
 ghost use Rattle.report_text.specs.Form.{IsCounted, FitsEntry};
 ghost use Rattle.report_text.specs.Text.{history_lines};
 ghost use Rattle.report_sections.specs.Pieces.{Reads};
 ghost use Rattle.report_sections.specs.History.{behind_front, kind_of, numbered_of, source_of, entry_of, history_read};
 
+use crate::items::{ItemReader, read_section};
 use aig_model::Kind;
 use board_core::{Entries, Entry, Source};
-use report_lines::{
-    LineWords, ReportFault, TextLines, last, read_count, small, take_number, take_small,
-};
+use report_lines::{LineWords, ReportFault, TextLines, last, small, take_number, take_small};
 use std::alloc::Global;
 
 /// What stands behind the front, where the word begins with it.
@@ -96,23 +95,26 @@ fn entry_in(words: LineWords<'_>) -> Option<Entry>
     last(entry, words)
 }
 
-fn read_entry(lines: &mut TextLines<'_>) -> Result<Entry, ReportFault>
-    ensures { Gives result lines.new (line_read entry_of lines.old) }
-{
-    let entry = entry_in(lines.words());
-    lines.settle(entry)
-}
+#[derive(Drop)]
+struct EntryReader;
 
-#[tactic(auto, using(crate::proofs::ItemsRead::item_steps))]
-fn history(alloc: Global, lines: &mut TextLines<'_>) -> Result<Entries, ReportFault>
-    ensures { Gives result lines.new (history_read lines.old) }
-{
-    let count = read_count(b"history", lines)?;
-    let mut entries = Entries::new(alloc);
-    for _number in 0..count {
-        entries.push(read_entry(lines)?)?;
+impl ItemReader for EntryReader {
+    type Item = Entry;
+
+    ghost use Rattle.report_lines.specs.Reading.{line_read};
+    ghost use Rattle.report_sections.specs.History.{entry_of};
+
+    ghost told = { λ _ _ p. line_read entry_of p };
+
+    fn read(
+        &self,
+        _alloc: Global,
+        lines: &mut TextLines<'_>,
+        _number: u32,
+    ) -> Result<Entry, ReportFault> {
+        let entry = entry_in(lines.words());
+        lines.settle(entry)
     }
-    Ok(entries)
 }
 
 /// The section of the history.
@@ -120,5 +122,5 @@ pub fn read_history(alloc: Global, lines: &mut TextLines<'_>) -> Result<Entries,
     ensures gives { Gives result lines.new (history_read lines.old) }
     ensures reads { Reads (IsCounted FitsEntry) history_lines lines.old result lines.new }
 {
-    history(alloc, lines)
+    read_section(alloc, lines, b"history", &EntryReader)
 }

@@ -5,14 +5,15 @@ ghost use Rattle.std.specs.Option.{option_map};
 ghost use Rattle.report_text.specs.Form.{FitsProof};
 ghost use Rattle.report_text.specs.Text.{proof_lines};
 ghost use Rattle.report_lines.specs.Words.{Takes, until, word};
-ghost use Rattle.report_lines.specs.Reading.{Gives, line_read};
+ghost use Rattle.report_lines.specs.Reading.{Gives};
 ghost use Rattle.report_sections.specs.Pieces.{Reads};
 ghost use Rattle.report_sections.specs.Proofs.{hint_of, literal_of, id_of, addition_of, deletion_of, after_id, step_of, proof_read};
 
+use crate::items::{ItemReader, read_section};
 use cnf_base::{Clause, CnfLit};
 use ketch_base::OutOfMemory;
 use lrat_text::{Hints, Ids, LratStep, Proof};
-use report_lines::{LineWords, ReportFault, TextLines, last, read_count, signed};
+use report_lines::{LineWords, ReportFault, TextLines, last, signed};
 use std::alloc::Global;
 use text_words::decimal_number;
 
@@ -151,23 +152,26 @@ fn step_in(alloc: Global, words: LineWords<'_>) -> Result<Option<LratStep>, OutO
     behind_id(alloc, id, words)
 }
 
-fn read_step(alloc: Global, lines: &mut TextLines<'_>) -> Result<LratStep, ReportFault>
-    ensures { Gives result lines.new (line_read step_of lines.old) }
-{
-    let step = step_in(alloc, lines.words())?;
-    lines.settle(step)
-}
+#[derive(Drop)]
+struct StepReader;
 
-#[tactic(auto, using(crate::proofs::ItemsRead::item_steps))]
-fn steps(alloc: Global, lines: &mut TextLines<'_>) -> Result<Proof, ReportFault>
-    ensures { Gives result lines.new (proof_read lines.old) }
-{
-    let count = read_count(b"proof", lines)?;
-    let mut proof = Proof::new(alloc);
-    for _number in 0..count {
-        proof.push(read_step(alloc, lines)?)?;
+impl ItemReader for StepReader {
+    type Item = LratStep;
+
+    ghost use Rattle.report_lines.specs.Reading.{line_read};
+    ghost use Rattle.report_sections.specs.Proofs.{step_of};
+
+    ghost told = { λ _ _ p. line_read step_of p };
+
+    fn read(
+        &self,
+        alloc: Global,
+        lines: &mut TextLines<'_>,
+        _number: u32,
+    ) -> Result<LratStep, ReportFault> {
+        let step = step_in(alloc, lines.words())?;
+        lines.settle(step)
     }
-    Ok(proof)
 }
 
 /// A proof: how many steps, and a line for each.
@@ -175,5 +179,5 @@ pub fn read_proof(alloc: Global, lines: &mut TextLines<'_>) -> Result<Proof, Rep
     ensures gives { Gives result lines.new (proof_read lines.old) }
     ensures reads { Reads FitsProof proof_lines lines.old result lines.new }
 {
-    steps(alloc, lines)
+    read_section(alloc, lines, b"proof", &StepReader)
 }

@@ -5,13 +5,12 @@ ghost use Rattle.report_text.specs.Form.{IsCounted, FitsSeed};
 ghost use Rattle.report_text.specs.Text.{seeds_lines};
 ghost use Rattle.report_lines.specs.Reading.{Gives, line_read};
 ghost use Rattle.report_sections.specs.Pieces.{Reads};
-ghost use Rattle.report_sections.specs.Seeds.{bound_of, seed_line_of, seed_rest, seed_read, seeds_read};
+ghost use Rattle.report_sections.specs.Seeds.{bound_of, seed_line_of, seed_rest, seeds_read};
 
 use crate::bits::{read_bits, read_rows};
 use crate::head::Size;
-use report_lines::{
-    LineWords, ReportFault, TextLines, behind_name, last, read_count, small, take_small,
-};
+use crate::items::{ItemReader, read_section};
+use report_lines::{LineWords, ReportFault, TextLines, behind_name, last, small, take_small};
 use report_text::{SeedLine, SeedLines};
 use std::alloc::Global;
 
@@ -61,29 +60,28 @@ fn values(
     Ok(Some(SeedLine { start, rows, state }))
 }
 
-fn seed(
-    alloc: Global,
-    lines: &mut TextLines<'_>,
+#[derive(Drop)]
+struct SeedReader {
     size: Size,
-    batch: u32,
-) -> Result<Option<SeedLine>, ReportFault>
-    ensures { Gives result lines.new (seed_read size.inputs size.latches batch lines.old) }
-{
-    let rows = rows_line(lines, batch)?;
-    let seed = values(alloc, lines, size, rows)?;
-    Ok(seed)
 }
 
-#[tactic(auto, using(crate::proofs::ItemsRead::item_steps))]
-fn seeds(alloc: Global, lines: &mut TextLines<'_>, size: Size) -> Result<SeedLines, ReportFault>
-    ensures { Gives result lines.new (seeds_read size.inputs size.latches lines.old) }
-{
-    let count = read_count(b"seeds", lines)?;
-    let mut seeds = SeedLines::new(alloc);
-    for batch in 0..count {
-        seeds.push(seed(alloc, lines, size, batch)?)?;
+impl ItemReader for SeedReader {
+    type Item = Option<SeedLine>;
+
+    ghost use Rattle.report_sections.specs.Seeds.{seed_read};
+
+    ghost told = { λ s. seed_read s.size.inputs s.size.latches };
+
+    fn read(
+        &self,
+        alloc: Global,
+        lines: &mut TextLines<'_>,
+        batch: u32,
+    ) -> Result<Option<SeedLine>, ReportFault> {
+        let rows = rows_line(lines, batch)?;
+        let seed = values(alloc, lines, self.size, rows)?;
+        Ok(seed)
     }
-    Ok(seeds)
 }
 
 /// The section of the seeds, one for each batch.
@@ -95,5 +93,5 @@ pub fn read_seeds(
     ensures gives { Gives result lines.new (seeds_read size.inputs size.latches lines.old) }
     ensures reads { Reads (IsCounted (FitsSeed size.inputs size.latches)) seeds_lines lines.old result lines.new }
 {
-    seeds(alloc, lines, size)
+    read_section(alloc, lines, b"seeds", &SeedReader { size })
 }

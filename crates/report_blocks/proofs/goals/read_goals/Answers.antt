@@ -10,4 +10,4 @@ returns-clause-reads c =
     let old = c.args.lines.now in
     let inputs = c.args.size.inputs in
     let latches = c.args.size.latches in
-    gives-reads (IsCounted (FitsBlock inputs latches)) goals_lines old c.goals.new.lines c.goals.result (goals_read inputs latches old) c.goals.ensures (goals-reads inputs latches old)
+    gives-reads (IsCounted (FitsBlock inputs latches)) goals_lines old c.read_section.new.lines c.read_section.result (goals_read inputs latches old) c.read_section.ensures (goals-reads inputs latches old)

@@ -8,4 +8,4 @@ use Rattle.report_blocks.proofs.queries.read_refutes.Goals as goal
 pub returns-clause-reads : goal.returns-clause-reads
 returns-clause-reads c =
     let old = c.args.lines.now in
-    gives-reads (IsCounted FitsRefute) refutes_lines old c.refutes.new.lines c.refutes.result (refutes_read old) c.refutes.ensures (refutes-reads old)
+    gives-reads (IsCounted FitsRefute) refutes_lines old c.read_section.new.lines c.read_section.result (refutes_read old) c.read_section.ensures (refutes-reads old)

@@ -8,4 +8,4 @@ use Rattle.report_blocks.proofs.queries.read_spents.Goals as goal
 pub returns-clause-reads : goal.returns-clause-reads
 returns-clause-reads c =
     let old = c.args.lines.now in
-    gives-reads (IsCounted FitsSpent) spents_lines old c.spents.new.lines c.spents.result (spents_read old) c.spents.ensures (spents-reads old)
+    gives-reads (IsCounted FitsSpent) spents_lines old c.read_section.new.lines c.read_section.result (spents_read old) c.read_section.ensures (spents-reads old)

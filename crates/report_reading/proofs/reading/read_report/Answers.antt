@@ -1,4 +1,3 @@
-use Rattle.report_reading.specs.Sections.{whole_read}
 use Rattle.report_reading.proofs.WholeRead.{spells, faulty, reads-each, refuses-each}
 use Rattle.report_reading.proofs.reading.read_report.Goals as goal
 

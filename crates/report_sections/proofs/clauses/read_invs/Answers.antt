@@ -8,4 +8,4 @@ use Rattle.report_sections.proofs.clauses.read_invs.Goals as goal
 pub returns-clause-reads : goal.returns-clause-reads
 returns-clause-reads c =
     let old = c.args.lines.now in
-    gives-reads (IsCounted FitsInv) invs_lines old c.certificates.new.lines c.certificates.result (invs_read old) c.certificates.ensures (invs-reads old)
+    gives-reads (IsCounted FitsInv) invs_lines old c.read_section.new.lines c.read_section.result (invs_read old) c.read_section.ensures (invs-reads old)

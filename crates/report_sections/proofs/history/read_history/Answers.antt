@@ -8,4 +8,4 @@ use Rattle.report_sections.proofs.history.read_history.Goals as goal
 pub returns-clause-reads : goal.returns-clause-reads
 returns-clause-reads c =
     let old = c.args.lines.now in
-    gives-reads (IsCounted FitsEntry) history_lines old c.history.new.lines c.history.result (history_read old) c.history.ensures (history-reads old)
+    gives-reads (IsCounted FitsEntry) history_lines old c.read_section.new.lines c.read_section.result (history_read old) c.read_section.ensures (history-reads old)

@@ -8,4 +8,4 @@ use Rattle.report_sections.proofs.proof.read_proof.Goals as goal
 pub returns-clause-reads : goal.returns-clause-reads
 returns-clause-reads c =
     let old = c.args.lines.now in
-    gives-reads FitsProof proof_lines old c.steps.new.lines c.steps.result (proof_read old) c.steps.ensures (proof-reads old)
+    gives-reads FitsProof proof_lines old c.read_section.new.lines c.read_section.result (proof_read old) c.read_section.ensures (proof-reads old)

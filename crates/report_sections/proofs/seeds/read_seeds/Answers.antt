@@ -10,4 +10,4 @@ returns-clause-reads c =
     let old = c.args.lines.now in
     let inputs = c.args.size.inputs in
     let latches = c.args.size.latches in
-    gives-reads (IsCounted (FitsSeed inputs latches)) seeds_lines old c.seeds.new.lines c.seeds.result (seeds_read inputs latches old) c.seeds.ensures (seeds-reads inputs latches old)
+    gives-reads (IsCounted (FitsSeed inputs latches)) seeds_lines old c.read_section.new.lines c.read_section.result (seeds_read inputs latches old) c.read_section.ensures (seeds-reads inputs latches old)
