@@ -1,11 +1,13 @@
 #!/usr/bin/env python3
-"""Takes the proofs of unreachable goals out of a report, each with its formula, for any LRAT checker.
+"""Takes the proofs out of a report, each with its formula, for any LRAT checker.
 
 usage: proof_files.py CIRCUIT.aag SIGNALS REPORT FOLDER
 
 For each clause k of the report FOLDER gets clause<k>.cnf and clause<k>.lrat, that a step from a state in which all
 clauses hold keeps it, and for each unreachable goal g goal<g>.cnf and goal<g>.lrat, that no state in which they hold
-shows it. Nothing here is taken from the program: the formulas are made from the circuit, as docs/FORMATS.md has them.
+shows it. A report of `cover --proofs` also has, for each step that a search went through whole, the proof that nothing
+more is reached there: sweep<t>.cnf and sweep<t>.lrat from reset, hop<b>_<t>.cnf and hop<b>_<t>.lrat from the state of
+batch b's seed. Nothing here is taken from the program: the formulas are made from the circuit, as docs/FORMATS.md has them.
 The clauses are printed in the circuit's own names, and whether each holds at reset, which no proof is needed for.
 """
 import os
@@ -71,9 +73,38 @@ def over_latches(circuit, clause, column):
     return [cnf(lit) if sign > 0 else -cnf(lit) for lit, sign in zip(lits, clause)]
 
 
-def write(folder, name, circuit, clauses, proof):
+def at_step(circuit, clauses, t):
+    """Clauses of one step, over the variables of step t."""
+    before = t * (circuit.top + 1)
+    return [[lit + before if lit > 0 else lit - before for lit in clause] for clause in clauses]
+
+
+def first_states(circuit, state):
+    """The clauses of the latches at step 0: their values in this state, or their resets."""
+    if state is None:
+        values = [(row[0], row[2]) for row in circuit.latches if row[2] != row[0]]
+    else:
+        values = [(row[0], value) for row, value in zip(circuit.latches, state)]
+    return [[cnf(lit) if value else -cnf(lit)] for lit, value in values]
+
+
+def search(circuit, signals, state, last, blocked):
+    """The runs of steps 0 to last, from reset or from a state, that end in a goal that isn't blocked."""
+    clauses = []
+    for t in range(last + 1):
+        clauses += at_step(circuit, step(circuit), t)
+        if t == 0:
+            clauses += first_states(circuit, state)
+        for lit, later, _ in circuit.latches if t else []:
+            (now,), (then,) = at_step(circuit, [[cnf(lit)]], t)[0], at_step(circuit, [[cnf(later)]], t - 1)[0]
+            clauses += [[-now, then], [now, -then]]
+    goals = [[-cnf(lit) if goal >> k & 1 else cnf(lit) for k, lit in enumerate(signals)] for goal in blocked]
+    return clauses + at_step(circuit, goals, last)
+
+
+def write(folder, name, circuit, clauses, proof, steps=1):
     with open(os.path.join(folder, name + ".cnf"), "w") as file:
-        file.write(f"p cnf {circuit.top + 1} {len(clauses)}\n")
+        file.write(f"p cnf {steps * (circuit.top + 1)} {len(clauses)}\n")
         file.writelines(" ".join(map(str, clause)) + " 0\n" for clause in clauses)
     with open(os.path.join(folder, name + ".lrat"), "w") as file:
         file.writelines(line + "\n" for line in proof)
@@ -98,6 +129,18 @@ def invariant(lines):
         found.append(([int(word) for word in lines[at].split()[:-1]], proof))
         at += 2 + len(proof)
     return found
+
+
+def seed_states(lines):
+    """The state of each batch's seed, and None where a batch has none."""
+    at = next(k for k, line in enumerate(lines) if line.startswith("seeds ")) + 1
+    states = []
+    while lines[at].startswith("seed "):
+        word = lines[at].split()[2]
+        rows = 0 if word == "none" else int(word) + 2
+        states.append([int(value) for value in lines[at + rows]] if rows else None)
+        at += 1 + rows
+    return states
 
 
 def said(circuit, clause):
@@ -134,6 +177,13 @@ def main():
             shown = [[cnf(lit) if goal >> k & 1 else -cnf(lit)] for k, lit in enumerate(signals)]
             write(folder, f"goal{goal}", circuit, base + shown, proof_at(lines, at + 1))
             print(f"goal {goal}: unreachable")
+        if words[:1] == ["refute"]:
+            hop = words[1] == "hop"
+            state = seed_states(lines)[int(words[2])] if hop else None
+            last, blocked = int(words[-1]), [int(goal) for goal in lines[at + 1].split()[2:]]
+            name = "_".join(words[2:]) if hop else words[2]
+            write(folder, words[1] + name, circuit, search(circuit, signals, state, last, blocked), proof_at(lines, at + 2), last + 1)
+            print(f"{' '.join(words[1:])}: nothing but {len(blocked)} settled goals")
 
 
 main()

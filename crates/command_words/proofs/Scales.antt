@@ -1,5 +1,5 @@
 -- The numbers of a command are ones that its options take.
-use Rattle.std.proofs.Common.{◌≡◌, ℕ, ◌≤◌, Bool, true, false, if◌then◌else◌, ◌&&◌, nat_le, List, [], ◌∷◌, codes, bytes_eq, Option, Some, None, IfSome, refl, arith}
+use Rattle.std.proofs.Common.{◌≡◌, ℕ, ◌≤◌, Bool, true, false, if◌then◌else◌, ◌&&◌, not, nat_le, List, [], ◌∷◌, codes, bytes_eq, Option, Some, None, IfSome, refl, arith}
 use Rattle.std.specs.Option.{unwrap_or}
 use Rattle.std.proofs.lemmas.Bool.{leb-true}
 use Rattle.text_words.specs.Numbers.{decimal_number_of}
@@ -10,7 +10,7 @@ use Rattle.command_words.specs.declared.settings.Setting.{Setting}
 use Rattle.command_words.specs.declared.settings.Setting.TheVariants.{Depth, Batches, Length, Stall, Hop, Seed, Lemmas, Strength, Rounds, Workers}
 use Rattle.command_words.specs.declared.settings.Switch.{Switch}
 use Rattle.command_words.specs.declared.settings.Switch.TheVariants.{Proofs}
-use Rattle.command_words.specs.Settings.{setting_of, scale_of, is_given, nothing, with_given, given_number, given_switch, given_name, waiting_of, given_after, given_by, options_of, IsOnScale, AreOnScales}
+use Rattle.command_words.specs.Settings.{setting_of, scale_of, is_given, nothing, with_given, given_number, with_switch, given_switch, given_name, waiting_of, given_after, given_by, options_of, IsOnScale, AreOnScales}
 use Rattle.command_words.specs.Words.{Subject, Meaning, Usage, Help, Version, Goals, Replay, Lrat, HasScales, is_file_name, cover_with, cover_of, goals_of, replay_of, lrat_of, alone, meaning}
 
 abbrev number_of : Given → Setting → Option ℕ
@@ -78,13 +78,22 @@ number_given g s (Some n) h =
     where_within (is_given g s) (nat_le (scale_of s).least n) (nat_le n (scale_of s).greatest) (with_given g s n)
     (λ low high t. more g s n t (h t) (leb-true (scale_of s).least n low, leb-true n (scale_of s).greatest high))
 
-switch_given : (g : Given) (s : Switch) → IfSome (given_switch g s) AreGiven
-switch_given g Proofs = tt
+-- and a switch changes none
+proofs_on : (g : Given) (t : Setting) → IfSome (number_of g t) (IsOnScale t) → IfSome (number_of (with_switch g Proofs) t) (IsOnScale t)
+proofs_on g Depth h = h
+proofs_on g t h = h
+
+switch_when : (on : Bool) (g : Given) → AreGiven g → IfSome (if not on then Some g else None) AreGiven
+switch_when true g h = tt
+switch_when false g h = h
+
+switch_given : (g : Given) (s : Switch) → AreGiven g → IfSome (given_switch g s) AreGiven
+switch_given g Proofs h = switch_when g.proofs (with_switch g Proofs) (λ t. proofs_on g t (h t))
 
 name_given : (g : Given) (name : Option Named) → AreGiven g → IfSome (given_name g name) AreGiven
 name_given g None h = tt
 name_given g (Some (Numbered s)) h = h
-name_given g (Some (Bare s)) h = switch_given g s
+name_given g (Some (Bare s)) h = switch_given g s h
 
 words_given : (so_far : Option Given) (waiting : Option Setting) (words : List (List ℕ)) → IfSome so_far AreGiven → IfSome (given_after so_far waiting words) AreGiven
 words_given None waiting [] h = tt

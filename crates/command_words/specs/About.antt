@@ -18,7 +18,7 @@ usage_text =
 -- the options of `cover`: the range and, in brackets, the number of an option that isn't given
 abbrev pub options_text : List ℕ
 options_text =
-    codes "Options of cover, in any order, each with a number:\n\n"
+    codes "Options of cover, in any order, each but the last with a number:\n\n"
     ++ codes "  --depth     0..200                     steps of the search from reset [10]\n"
     ++ codes "  --batches   0..16                      batches of random walks [2]\n"
     ++ codes "  --length    1..100000                  steps of a walk [1000]\n"
@@ -28,7 +28,8 @@ options_text =
     ++ codes "  --lemmas    1..1000000                 lemmas that a query may spend [20000]\n"
     ++ codes "  --strength  0..2                       literals of an inductive clause [2]\n"
     ++ codes "  --rounds    0                          rounds after the first [0]\n"
-    ++ codes "  --workers   1..8                       threads [4]\n\n"
+    ++ codes "  --workers   1..8                       threads [4]\n"
+    ++ codes "  --proofs                               tell the searches that find nothing, with their proofs\n\n"
 
 abbrev pub statuses_text : List ℕ
 statuses_text =

@@ -42,7 +42,7 @@ scale_of Rounds = record { least = 0; greatest = 0; unset = 0 }
 scale_of Workers = record { least = 1; greatest = 8; unset = 4 }
 
 abbrev pub is_built : Switch → Bool
-is_built Proofs = false
+is_built Proofs = true
 
 -- ---- what the options were given
 abbrev pub nothing : Given

@@ -14,7 +14,7 @@ const HELP: &str = "Usage: ketch COMMAND ..
   --help                           print this text
   --version                        print the version
 
-Options of cover, in any order, each with a number:
+Options of cover, in any order, each but the last with a number:
 
   --depth     0..200                     steps of the search from reset [10]
   --batches   0..16                      batches of random walks [2]
@@ -26,6 +26,7 @@ Options of cover, in any order, each with a number:
   --strength  0..2                       literals of an inductive clause [2]
   --rounds    0                          rounds after the first [0]
   --workers   1..8                       threads [4]
+  --proofs                               tell the searches that find nothing, with their proofs
 
 Statuses:
 

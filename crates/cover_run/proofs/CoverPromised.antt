@@ -20,7 +20,7 @@ use Rattle.cover_run.specs.Promises.{IsTold, Accepts, IsUndisturbed, IsCovered, 
 use Rattle.cover_run.specs.Seen.{DeskSeen, SinkSeen, Took}
 use Rattle.command_words.specs.Stops.{status_of, settled_status}
 use Rattle.command_words.specs.Words.{CoverCall, Meaning, Cover}
-use Rattle.run_report.specs.Scope.{today}
+use Rattle.run_report.specs.Scope.{whole}
 use Rattle.run_report.proofs.TrueReports.{settles_asked}
 use Rattle.cover_run.proofs.Promised.{settled_either, not_ended, stopped_so}
 use Rattle.cover_run.proofs.SubjectPromised.{same_told, signals_spelled, read_accepted}
@@ -117,8 +117,8 @@ undisturbed_stop call d out c sig stop a room u (memory e) = e
 
 pub completeness : (command : Meaning) (d : DeskSeen) (out err : SinkSeen) (status : Status) → IsAnswer command d out err status → Completeness command d out status
 completeness command d out err status (inl w) call c sig e accepts room undisturbed =
-    let whole = covered call d out status c sig w.whole.bytes w.settled accepts (cover_output command call d w.whole.bytes w.settled e w.whole.output) w.whole.took w.status_is in
-    inl (record { covered = whole; asked = settles_asked c sig call.options today whole.is_report.report whole.is_report.tells })
+    let told = covered call d out status c sig w.whole.bytes w.settled accepts (cover_output command call d w.whole.bytes w.settled e w.whole.output) w.whole.took w.status_is in
+    inl (record { covered = told; asked = settles_asked c sig call.options whole told.is_report.report told.is_report.tells })
 completeness command d out err status (inr s) call c sig e accepts room undisturbed =
     let by = stops_of command call d out s.stop e s.stopped.cause in
     let memory = undisturbed_stop call d out c sig s.stop accepts room (subst (λ (x : Meaning). IsUndisturbed x d out) e undisturbed) by in

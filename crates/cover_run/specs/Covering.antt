@@ -11,7 +11,7 @@ use Rattle.command_words.specs.declared.stop.Measure.{Measure}
 use Rattle.command_words.specs.declared.stop.Measure.TheVariants as measures
 use Rattle.command_words.specs.Limits.{limit_of}
 use Rattle.run_report.specs.Report.{IsReport}
-use Rattle.run_report.specs.Scope.{today}
+use Rattle.run_report.specs.Scope.{whole}
 use Rattle.cover_run.specs.Seen.{DeskSeen, HasText}
 use Rattle.command_words.specs.Words.{Subject, CoverCall}
 use Rattle.signal_list.specs.SignalText.{SpellsSignals, IsFirstFault as IsFirstInSignals}
@@ -87,5 +87,5 @@ pub record IsCoverOutput (call : CoverCall) (d : DeskSeen) (bytes : List ℕ) (s
   pub has_circuit : HasCircuit call.subject d circuit
   pub has_signals : HasSignals call.subject d circuit signals
   pub room : HasRoom call.options circuit
-  pub is_report : IsReport circuit signals call.options today bytes
+  pub is_report : IsReport circuit signals call.options whole bytes
   pub settled_is : settled ≡ nat_eq is_report.report.unsettled 0

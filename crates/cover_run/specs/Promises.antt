@@ -39,7 +39,7 @@ use Rattle.wit_text.specs.declared.witness.Witness.{Witness}
 use Rattle.command_words.specs.declared.stop.Misfit.{Misfit}
 use Rattle.cover_run.specs.Replaying.{IsWitnessText, IsMisfit, replay_line}
 use Rattle.run_report.specs.Report.{IsReport, SettlesAsked}
-use Rattle.run_report.specs.Scope.{today}
+use Rattle.run_report.specs.Scope.{whole}
 use Rattle.cover_run.specs.Seen.{DeskSeen, SinkSeen, HasFaulted, Failed, HasSameCounts, Took, TookWhatItCould}
 use Rattle.command_words.specs.Stops.{line_of, status_of, settled_status}
 use Rattle.command_words.specs.Words.{Subject, CoverCall, ReplayCall, LratCall, Meaning, Help, Version, Cover, Goals, Replay, Lrat}
@@ -98,7 +98,7 @@ pub record IsCovered (call : CoverCall) (c : Parts) (sig : List ℕ) (out : Sink
   pub bytes : List ℕ
   pub took : Took out bytes
   pub room : HasRoom call.options c
-  pub is_report : IsReport c sig call.options today bytes
+  pub is_report : IsReport c sig call.options whole bytes
   pub ended : HasEnded status
   pub settled : (status ≡ statuses.Settled) ↔ (is_report.report.unsettled ≡ 0)
 
@@ -109,7 +109,7 @@ Headline command d out status =
 -- ---- completeness
 pub record IsComplete (call : CoverCall) (c : Parts) (sig : List ℕ) (out : SinkSeen) (status : Status) : Type 0 where
   pub covered : IsCovered call c sig out status
-  pub asked : SettlesAsked c sig today covered.is_report.report
+  pub asked : SettlesAsked c sig whole covered.is_report.report
 
 -- with no cause of a refusal and no fault, the whole report is written, out of memory aside
 abbrev pub Completeness : Meaning → DeskSeen → SinkSeen → Status → Type 0

@@ -7,7 +7,7 @@ ghost use Rattle.command_words.specs.Commands.{cover_call};
 ghost use Rattle.cover_run.specs.Covering.{HasRoom, IsCoverOutput};
 ghost use Rattle.cover_run.specs.Files.{files_of, IsAllRead, HasRead};
 ghost use Rattle.run_report.specs.Report.{IsReport};
-ghost use Rattle.run_report.specs.Scope.{today};
+ghost use Rattle.run_report.specs.Scope.{whole};
 ghost use Rattle.cover_run.specs.Seen.{seen};
 ghost use Rattle.cover_run.specs.Steps.{RoomCause};
 ghost use Rattle.command_words.specs.Stops.{is_of_devices};
@@ -52,7 +52,7 @@ fn report_of(
     requires signals { signals.now.circuit ≡ circuit.now }
     requires room { HasRoom options.now circuit.now }
     requires options { AreOnScales options.now }
-    ensures report { IfOk result (λ output. (report : IsReport circuit.now signals.now.lits options.now today output.bytes.items) × (output.settled ≡ nat_eq report.report.unsettled 0)) }
+    ensures report { IfOk result (λ output. (report : IsReport circuit.now signals.now.lits options.now whole output.bytes.items) × (output.settled ≡ nat_eq report.report.unsettled 0)) }
 {
     let report = run_engines(alloc, circuit, signals, options)?;
     let bytes = text_of(alloc, &report)?;

@@ -4,7 +4,6 @@
 mod checking;
 mod covering;
 mod exporting;
-mod gate;
 mod output;
 mod part;
 mod replaying;
@@ -12,6 +11,6 @@ mod running;
 mod subject;
 
 pub use command_words::{CircuitKind, File, Measure, Misfit, Refusal, Status, Stop};
-pub use gate::{Gate, OpenGate};
+pub use job_moves::{Gate, OpenGate};
 pub use report_text::Report;
 pub use running::run;

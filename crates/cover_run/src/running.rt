@@ -13,12 +13,12 @@ ghost use Rattle.command_words.specs.Words.{meaning, texts, Usage, HasScales};
 use crate::checking::check;
 use crate::covering::cover;
 use crate::exporting::export;
-use crate::gate::Gate;
 use crate::output::Output;
 use crate::replaying::replayed;
 use command_words::{
     Command, Status, Stop, command_of, help_text, line_of, settled_status, status_of, version_text,
 };
+use job_moves::Gate;
 use run_io::{Desk, Sink, write_all};
 use std::alloc::Global;
 use std::marker::Sync;

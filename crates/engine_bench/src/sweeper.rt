@@ -22,14 +22,14 @@ pub fn swept(
     requires small { depth ≤ 4000000 }
     requires some { 1 ≤ lemmas }
     requires few { lemmas ≤ 2 ^ 60 }
-    ensures { IfOk result (IsSweep circuit.now signals.now.lits (replicate (2 ^ length signals.now.lits) false) depth lemmas) }
+    ensures { IfOk result (IsSweep circuit.now signals.now.lits (replicate (2 ^ length signals.now.lits) false) depth lemmas false) }
 {
     let width = u64::from(circuit.top()) + 1;
     if (u64::from(depth) + 1).saturating_mul(width) > 4_000_000 {
         return Err(Stop::NoFormula);
     }
     let known = Bits::all_false(alloc, signals.goals() as usize)?;
-    let swept = sweep(alloc, circuit, signals, &known, depth, lemmas)?;
+    let swept = sweep(alloc, circuit, signals, &known, depth, lemmas, false)?;
     Ok(swept)
 }
 

@@ -160,7 +160,7 @@ fn is_swept(
     }
     let first = first_steps(alloc, circuit, steps, signals.goals(), depth)?;
     let known = Bits::all_false(alloc, signals.goals() as usize)?;
-    let swept = sweep(alloc, circuit, signals, &known, depth, LEMMAS)?;
+    let swept = sweep(alloc, circuit, signals, &known, depth, LEMMAS, false)?;
     Ok(swept.spent.is_none() && are_first(&swept.found, &first))
 }
 

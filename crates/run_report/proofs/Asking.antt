@@ -15,7 +15,8 @@ use Rattle.inv_prover.specs.declared.excluded.Excluded.TheVariants as answers
 use Rattle.report_text.specs.declared.report.Block.{Block}
 use Rattle.run_report.specs.declared.posts.Finding.{Finding}
 use Rattle.run_report.specs.declared.proving.Asked.{Asked}
-use Rattle.run_report.specs.Invariants.{Excludes, IsInv}
+use Rattle.goal_facts.specs.Invariants.{Excludes}
+use Rattle.run_report.specs.Invariants.{IsInv}
 use Rattle.run_report.specs.Proving.{AreAsked, IsAnswered, IsProof, IsSpentBlock, after_answer, excludes_block, proof_finding}
 use Rattle.run_report.specs.Queries.{item_of}
 use Rattle.run_report.specs.Run.{goals_of}

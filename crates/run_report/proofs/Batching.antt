@@ -22,11 +22,11 @@ use Rattle.run_report.specs.declared.posts.Finding.{Finding}
 use Rattle.run_report.specs.declared.posts.Post.{Post}
 use Rattle.run_report.specs.Batches.{IsFoundBy, Adds, AddsVisits, AddsHopEnd, AddsBatch, AddsBatches, Extends, HaveEntries}
 use Rattle.run_report.specs.Ends.{IsBatchEnd}
-use Rattle.run_report.specs.Found.{Found}
+use Rattle.goal_facts.specs.Found.{Found}
 use Rattle.run_report.specs.Lines.{HasShortBasis}
 use Rattle.run_report.specs.Posts.{entries_of, kind_of_basis, IsBasis, IsFinding, IsHistory, IsPost, post_of, posts_of}
 use Rattle.run_report.specs.Run.{goals_of}
-use Rattle.run_report.specs.Seeds.{IsSeedOfBatch}
+use Rattle.goal_facts.specs.Seeds.{IsSeedOfBatch}
 use Rattle.run_report.proofs.Counts.{pairs_append}
 use Rattle.run_report.proofs.Posting.{entry_of_finding, length-posts, post_at, posts_history}
 

@@ -32,7 +32,7 @@ one_if : (t : Bool) → t ≡ true → ◌≡◌ {A = ℕ} (cond t 1 0) 1
 one_if true e = refl
 one_if false e = absurd (false≢true e)
 
--- where one is unreachable the count isn't 0, and where it isn't 0 one is
+-- where one is unreachable the count isn't 0
 pub some_unreachable : (bs : List GoalBlock) (g : ℕ) (b : GoalBlock) → slice_get bs g ≡ Some b → is_unreachable b ≡ true → 0 < count_by is_unreachable bs
 some_unreachable [] g b e un = absurd cc
 some_unreachable (x ∷ bs) zero b e un =
@@ -40,12 +40,13 @@ some_unreachable (x ∷ bs) zero b e un =
     omega (arith, sum_by-cons (λ y. cond (is_unreachable y) 1 0) x bs, one_if (is_unreachable x) (ap is_unreachable same ∙ un))
 some_unreachable (x ∷ bs) (suc g) b e un = omega (arith, sum_by-cons (λ y. cond (is_unreachable y) 1 0) x bs, some_unreachable bs g b e un)
 
-pub unreachable_place : (bs : List GoalBlock) → 0 < count_by is_unreachable bs → (g : ℕ) × (b : GoalBlock) × (slice_get bs g ≡ Some b) × (is_unreachable b ≡ true)
-unreachable_place [] some = absurd (omega (arith, some))
-unreachable_place (x ∷ bs) some = elim (cases_Bool (is_unreachable x)) [
+-- one that is counted stands somewhere
+pub counted_place : (test : GoalBlock → Bool) (bs : List GoalBlock) → 0 < count_by test bs → (g : ℕ) × (b : GoalBlock) × (slice_get bs g ≡ Some b) × (test b ≡ true)
+counted_place test [] some = absurd (omega (arith, some))
+counted_place test (x ∷ bs) some = elim (cases_Bool (test x)) [
   | inl is ↦ (0, x, refl, is)
   | inr isnt ↦ (
-      let rest = unreachable_place bs (omega (arith, some, sum_by-cons (λ y. cond (is_unreachable y) 1 0) x bs, zero_if (is_unreachable x) isnt)) in
+      let rest = counted_place test bs (omega (arith, some, sum_by-cons (λ y. cond (test y) 1 0) x bs, zero_if (test x) isnt)) in
       (suc rest.0, rest.1, rest.2, rest.3)
       )
 ]

@@ -1,19 +1,21 @@
 -- What the spent queries of all jobs leave as bounds.
 use Rattle.std.proofs.Common.{◌≡◌, ◌≢◌, ℕ, zero, suc, ◌+◌, ◌<◌, Bool, cond, List, [], ◌∷◌, ◌++◌, length, get_or, refl, sym, ap, subst, ◌∙◌, arith, All, Any, Option, Some, None}
 use Rattle.std.specs.Prelude.{slice_get, is_some, IsSome}
-use Rattle.std.specs.List.{cons_option}
+use Rattle.std.specs.List.{cons_option, flat_map}
 use Rattle.std.proofs.lemmas.Bool.{false≢true}
 use Rattle.std.proofs.lemmas.List.{append-nil}
 use Rattle.std.proofs.lemmas.List.Elements.{filter_map-append}
+use Rattle.std.proofs.lemmas.Option.{none-some}
 use Rattle.report_text.specs.declared.report.BlockName.{BlockName}
 use Rattle.report_text.specs.declared.report.BlockName.TheVariants as names
 use Rattle.report_text.specs.declared.report.Block.{Block}
 use Rattle.run_report.specs.declared.ends.BatchEnd.{BatchEnd}
+use Rattle.run_report.specs.declared.searches.Search.{Search}
+use Rattle.run_report.specs.declared.searches.Search.TheVariants as searches
 use Rattle.run_report.specs.Bounds.{sweep_step, hop_step, proof_step, first_of, steps_of, first_step, unless_spent}
-use Rattle.run_report.specs.Ended.{hop_blocks}
-use Rattle.run_report.specs.Ends.{optional}
 use Rattle.run_report.specs.Queries.{section_of}
-use Rattle.run_report.proofs.History.{other_test}
+use Rattle.run_report.specs.Searches.{name_of, step_in}
+use Rattle.run_report.proofs.History.{other_test, same_test}
 
 -- ---- blocks that name no step of a kind
 pub steps_none : (h : BlockName → Option ℕ) (bs : List Block) → All (λ (b : Block). h b.name ≡ None) bs → steps_of h bs ≡ []
@@ -24,42 +26,58 @@ steps_none h (b ∷ bs) none =
 pub steps-append : (h : BlockName → Option ℕ) (xs ys : List Block) → steps_of h (xs ++ ys) ≡ steps_of h xs ++ steps_of h ys
 steps-append h xs ys = filter_map-append (λ (b : Block). h b.name) xs ys
 
+-- the query of a step of a search names that step
+pub named_step : (search : Search) (k : ℕ) → step_in search (name_of search k) ≡ Some k
+named_step searches.Sweep k = refl
+named_step (searches.Hop b) k = rw (same_test b b refl) refl
+
 -- ---- the queries of hops, numbered from n on
-abbrev pub IsOfHop : ℕ → Option Block → Type 0
-IsOfHop n None = Unit {0}
-IsOfHop n (Some b) = (step : ℕ) × (b.name ≡ names.Hop n step)
+abbrev pub IsOfHop : ℕ → Block → Type 0
+IsOfHop n b = (step : ℕ) × (b.name ≡ names.Hop n step)
 
-abbrev pub AreOfHops : ℕ → List BatchEnd → Type 0
-AreOfHops n [] = Unit {0}
-AreOfHops n (end ∷ ends) = IsOfHop n end.spent × AreOfHops (n + 1) ends
+-- the same queries of each end, as its spent or its refuted ones
+abbrev pub AreOfHops : (BatchEnd → List Block) → ℕ → List BatchEnd → Type 0
+AreOfHops of n [] = Unit {0}
+AreOfHops of n (end ∷ ends) = All (IsOfHop n) (of end) × AreOfHops of (n + 1) ends
 
--- another batch's query has no step of this one
-other_hop : (b n : ℕ) (spent : Option Block) → n ≢ b → IsOfHop n spent → steps_of (hop_step b) (optional spent) ≡ []
-other_hop b n None other of = refl
-other_hop b n (Some q) other of =
-    ap (λ name. cons_option (hop_step b name) []) of.1 ∙ ap (λ (t : Bool). cons_option (cond t (Some of.0) None) []) (other_test n b other)
+-- another batch's queries have no step of this one
+other_hop : (b n : ℕ) (bs : List Block) → n ≢ b → All (IsOfHop n) bs → steps_of (hop_step b) bs ≡ []
+other_hop b n bs other named =
+    steps_none (hop_step b) bs (λ k d l. ap (hop_step b) (named k d l).1 ∙ ap (λ (t : Bool). cond t (Some (named k d l).0) None) (other_test n b other))
 
-later_hops : (b n : ℕ) (ends : List BatchEnd) → b < n → AreOfHops n ends → steps_of (hop_step b) (hop_blocks ends) ≡ []
-later_hops b n [] less of = refl
-later_hops b n (end ∷ ends) less of =
-    steps-append (hop_step b) (optional end.spent) (hop_blocks ends)
-    ∙ (ap (λ (xs : List ℕ). xs ++ steps_of (hop_step b) (hop_blocks ends)) (other_hop b n end.spent (λ same. omega (arith, same, less)) of.0)
-    ∙ later_hops b (n + 1) ends (omega (arith, less)) of.1)
+later_hops : (of : BatchEnd → List Block) (b n : ℕ) (ends : List BatchEnd) → b < n → AreOfHops of n ends → steps_of (hop_step b) (flat_map of ends) ≡ []
+later_hops of b n [] less named = refl
+later_hops of b n (end ∷ ends) less named =
+    steps-append (hop_step b) (of end) (flat_map of ends)
+    ∙ (ap (λ (xs : List ℕ). xs ++ steps_of (hop_step b) (flat_map of ends)) (other_hop b n (of end) (λ same. omega (arith, same, less)) named.0)
+    ∙ later_hops of b (n + 1) ends (omega (arith, less)) named.1)
 
-pub own_hop : (n k : ℕ) (ends : List BatchEnd) (end : BatchEnd) → AreOfHops n ends → slice_get ends k ≡ Some end
-    → steps_of (hop_step (n + k)) (hop_blocks ends) ≡ steps_of (hop_step (n + k)) (optional end.spent)
-own_hop n k [] end of e = absurd cc
-own_hop n zero (x ∷ ends) end of e =
+-- those of a batch
+pub own_hop : (of : BatchEnd → List Block) (n k : ℕ) (ends : List BatchEnd) (end : BatchEnd) → AreOfHops of n ends → slice_get ends k ≡ Some end
+    → steps_of (hop_step (n + k)) (flat_map of ends) ≡ steps_of (hop_step (n + k)) (of end)
+own_hop of n k [] end named e = absurd cc
+own_hop of n zero (x ∷ ends) end named e =
     let same : x ≡ end = cc in
-    steps-append (hop_step (n + 0)) (optional x.spent) (hop_blocks ends)
-    ∙ (ap (λ (xs : List ℕ). steps_of (hop_step (n + 0)) (optional x.spent) ++ xs) (later_hops (n + 0) (n + 1) ends (omega arith) of.1)
-    ∙ (append-nil (steps_of (hop_step (n + 0)) (optional x.spent)) ∙ ap (λ (y : BatchEnd). steps_of (hop_step (n + 0)) (optional y.spent)) same))
-own_hop n (suc k) (x ∷ ends) end of e =
+    steps-append (hop_step (n + 0)) (of x) (flat_map of ends)
+    ∙ (ap (λ (xs : List ℕ). steps_of (hop_step (n + 0)) (of x) ++ xs) (later_hops of (n + 0) (n + 1) ends (omega arith) named.1)
+    ∙ (append-nil (steps_of (hop_step (n + 0)) (of x)) ∙ ap (λ (y : BatchEnd). steps_of (hop_step (n + 0)) (of y)) same))
+own_hop of n (suc k) (x ∷ ends) end named e =
     let number : n + 1 + k ≡ n + suc k = omega arith in
-    steps-append (hop_step (n + suc k)) (optional x.spent) (hop_blocks ends)
-    ∙ (ap (λ (xs : List ℕ). xs ++ steps_of (hop_step (n + suc k)) (hop_blocks ends)) (other_hop (n + suc k) n x.spent (λ same. omega (arith, same)) of.0)
-    ∙ subst (λ (b : ℕ). steps_of (hop_step b) (hop_blocks ends) ≡ steps_of (hop_step b) (optional end.spent)) number (own_hop (n + 1) k ends end of.1 e))
+    steps-append (hop_step (n + suc k)) (of x) (flat_map of ends)
+    ∙ (ap (λ (xs : List ℕ). xs ++ steps_of (hop_step (n + suc k)) (flat_map of ends)) (other_hop (n + suc k) n (of x) (λ same. omega (arith, same)) named.0)
+    ∙ subst (λ (b : ℕ). steps_of (hop_step b) (flat_map of ends) ≡ steps_of (hop_step b) (of end)) number (own_hop of (n + 1) k ends end named.1 e))
 
+-- a batch that isn't there has none
+pub no_hop : (of : BatchEnd → List Block) (n k : ℕ) (ends : List BatchEnd) → AreOfHops of n ends → slice_get ends k ≡ None → steps_of (hop_step (n + k)) (flat_map of ends) ≡ []
+no_hop of n k [] named e = refl
+no_hop of n zero (x ∷ ends) named e = absurd (none-some x (sym e))
+no_hop of n (suc k) (x ∷ ends) named e =
+    let number : n + 1 + k ≡ n + suc k = omega arith in
+    steps-append (hop_step (n + suc k)) (of x) (flat_map of ends)
+    ∙ (ap (λ (xs : List ℕ). xs ++ steps_of (hop_step (n + suc k)) (flat_map of ends)) (other_hop (n + suc k) n (of x) (λ same. omega (arith, same)) named.0)
+    ∙ subst (λ (b : ℕ). steps_of (hop_step b) (flat_map of ends) ≡ []) number (no_hop of (n + 1) k ends named.1 e))
+
+-- ---- a goal's own query
 -- a query that isn't the first stands among the others
 any_at : (goal k : ℕ) (x b : Block) (bs : List Block) → k < length (b ∷ bs) → get_or (b ∷ bs) k x ≡ x → IsSome (proof_step goal x.name) → proof_step goal b.name ≡ None
     → Any (λ (y : Block). IsSome (proof_step goal y.name)) bs

@@ -23,6 +23,8 @@ use Rattle.inv_prover.proofs.Parts.{each, fewer}
 use Rattle.lrat_text.specs.Lrat.{IsLiteral}
 use Rattle.lrat_text.specs.Text.{HasProofLiterals, IsWritable}
 use Rattle.lrat_text.specs.declared.proof.LratStep.{LratStep}
+use Rattle.unroll.specs.declared.start.Start.{Start}
+use Rattle.unroll.specs.declared.start.Start.TheVariants.{Reset, State}
 use Rattle.report_text.specs.Form.{FitsBlock, FitsClause, FitsClauses, FitsHop, FitsInv, FitsOptions, FitsProof, FitsQuery, FitsSeed, FitsSpent, IsCounted}
 use Rattle.report_text.specs.declared.report.Block.{Block}
 use Rattle.report_text.specs.declared.report.BlockName.{BlockName}
@@ -37,21 +39,25 @@ use Rattle.sim_walk.specs.Walk.{Lane}
 use Rattle.sim_walk.specs.declared.options.Options.{Options}
 use Rattle.run_report.specs.declared.ends.BatchEnd.{BatchEnd}
 use Rattle.run_report.specs.declared.ends.Ends.{Ends}
+use Rattle.run_report.specs.declared.ends.SearchBlocks.{SearchBlocks}
 use Rattle.run_report.specs.declared.ends.ProverEnd.{ProverEnd}
 use Rattle.run_report.specs.declared.ends.ProverEnd.TheVariants.{NotRun, AllSettled, Spent, Whole}
 use Rattle.run_report.specs.declared.open_goals.OpenBounds.{OpenBounds}
+use Rattle.run_report.specs.declared.searches.Search.TheVariants as searches
 use Rattle.run_report.specs.declared.posts.Basis.{Basis}
 use Rattle.run_report.specs.declared.posts.Basis.TheVariants.{Witness, Proof}
 use Rattle.run_report.specs.Blocks.{block_by, open_block}
 use Rattle.run_report.specs.Bounds.{sweep_step, hop_step, first_of, first_step, whole_up_to, hop_of, hop_bound}
-use Rattle.run_report.specs.Ended.{AreBounds, all_spents, end_bound, hop_blocks, invs_from, prover_blocks, strength_after}
-use Rattle.run_report.specs.Ends.{AreTold, IsHopEnd, IsProverEnd, IsSweepEnd, inv_of, optional}
-use Rattle.run_report.specs.Invariants.{IsGreatestInvariant, HoldsGreatestInvariant, IsInv}
-use Rattle.run_report.specs.Lines.{HasBasisLiterals, HasProverLiterals, HasShortBasis, HasShortKept, HaveEndLiterals, HaveLiterals}
+use Rattle.run_report.specs.Ended.{AreBounds, all_spents, end_bound, hop_spents, invs_from, prover_blocks, strength_after}
+use Rattle.run_report.specs.Ends.{AreTold, IsHopEnd, IsProverEnd, IsSpentStep, inv_of, optional}
+use Rattle.goal_facts.specs.Invariants.{HoldsGreatestInvariant, IsGreatestInvariant}
+use Rattle.run_report.specs.Invariants.{IsInv}
+use Rattle.run_report.specs.Lines.{HasBasisLiterals, HasProverLiterals, HasShortBasis, HasShortKept, HaveEndLiterals, HaveLiterals, HaveSearchLiterals}
 use Rattle.run_report.specs.Posts.{IsBasis}
 use Rattle.run_report.specs.Queries.{AreSpents, ComesBefore, IsSpentQuery, item_of, section_of}
 use Rattle.run_report.specs.Ranges.{AreInRange}
-use Rattle.run_report.specs.Seeds.{AreSeeds, IsSeedOfBatch, seed_of_line}
+use Rattle.goal_facts.specs.Seeds.{IsSeedOfBatch}
+use Rattle.run_report.specs.Seeds.{AreSeeds, seed_of_line}
 use Rattle.run_report.proofs.Forms.{blocked_fits, rows_wide, trace_fits, whole_fits}
 
 -- ---- clauses
@@ -197,11 +203,11 @@ optional_literals : (spent : Option Block) → HaveLiterals spent → All (λ (b
 optional_literals None h = All-nil (λ (b : Block). HasProofLiterals b.proof)
 optional_literals (Some b) h = All-cons (λ (x : Block). HasProofLiterals x.proof) b [] h (All-nil (λ (x : Block). HasProofLiterals x.proof))
 
-hop_literals : (ends : List BatchEnd) → All (λ (end : BatchEnd). HaveLiterals end.spent) ends → All (λ (b : Block). HasProofLiterals b.proof) (hop_blocks ends)
+hop_literals : (ends : List BatchEnd) → All (λ (end : BatchEnd). HaveSearchLiterals end.hop) ends → All (λ (b : Block). HasProofLiterals b.proof) (hop_spents ends)
 hop_literals [] h = All-nil (λ (b : Block). HasProofLiterals b.proof)
 hop_literals (x ∷ ends) h =
-    All-append (λ (b : Block). HasProofLiterals b.proof) (optional x.spent) (hop_blocks ends) (optional_literals x.spent (All-head (λ (end : BatchEnd). HaveLiterals end.spent) x ends h))
-    (hop_literals ends (All-tail (λ (end : BatchEnd). HaveLiterals end.spent) x ends h))
+    All-append (λ (b : Block). HasProofLiterals b.proof) (optional x.hop.spent) (hop_spents ends) (optional_literals x.hop.spent (All-head (λ (end : BatchEnd). HaveSearchLiterals end.hop) x ends h).spent)
+    (hop_literals ends (All-tail (λ (end : BatchEnd). HaveSearchLiterals end.hop) x ends h))
 
 prover_literals : (p : ProverEnd) → HasProverLiterals p → All (λ (b : Block). HasProofLiterals b.proof) (prover_blocks p)
 prover_literals NotRun h = All-nil (λ (b : Block). HasProofLiterals b.proof)
@@ -212,8 +218,8 @@ prover_literals (Whole inv spents) h = h.1
 pub spents_literals : (ends : Ends) → HaveEndLiterals ends → All (λ (b : Block). HasProofLiterals b.proof) (all_spents ends)
 spents_literals ends h =
     let P : Block → Type 0 = λ (b : Block). HasProofLiterals b.proof in
-    All-append P (optional ends.sweep ++ hop_blocks ends.batches) (prover_blocks ends.prover)
-    (All-append P (optional ends.sweep) (hop_blocks ends.batches) (optional_literals ends.sweep h.sweep) (hop_literals ends.batches h.batches))
+    All-append P (optional ends.sweep.spent ++ hop_spents ends.batches) (prover_blocks ends.prover)
+    (All-append P (optional ends.sweep.spent) (hop_spents ends.batches) (optional_literals ends.sweep.spent h.sweep.spent) (hop_literals ends.batches h.batches))
     (prover_literals ends.prover h.prover)
 
 pub invs_fit : (c : Parts) (sig : List ℕ) (o : Options) (es : List Entry) (p : ProverEnd) (n : ℕ) → IsCircuit c → IsProverEnd c sig o es p → HasShortKept p → HasProverLiterals p
@@ -244,21 +250,24 @@ hop_fits_of : (t : Option ℕ) → IfSome t (λ d. d < 2 ^ 32) → FitsHop (hop_
 hop_fits_of None h = tt
 hop_fits_of (Some t) h = h
 
-hop_end_fits : (c : Parts) (sig : List ℕ) (o : Options) (es : List Entry) (b : ℕ) (seed : Option SeedLine) (spent : Option Block) → o.hop < 2 ^ 32 → IsHopEnd c sig o es b seed spent
-    → FitsHop (hop_bound o (optional spent) b seed)
-hop_end_fits c sig o es b None spent far h = tt
-hop_end_fits c sig o es b (Some s) None far h = far
-hop_end_fits c sig o es b (Some s) (Some q) far h =
-    let near : IfSome (first_step (hop_step b) (q ∷ [])) (λ t. t ≤ o.hop) =
-    subst (λ n. IfSome (first_of (cons_option (hop_step b n) [])) (λ t. t ≤ o.hop)) (sym h.spent.1) (if_near (nat_eq b b) h.spent.0 o.hop h.spent.2.near) in
-    hop_fits_of (whole_up_to o.hop (first_step (hop_step b) (q ∷ []))) (whole_fits o.hop (first_step (hop_step b) (q ∷ [])) far near)
+hop_near : (c : Parts) (sig : List ℕ) (o : Options) (es : List Entry) (start : Start) (b : ℕ) (spent : Option Block) → IsSpentStep c sig o es start o.hop (searches.Hop b) spent
+    → IfSome (first_step (hop_step b) (optional spent)) (λ t. t ≤ o.hop)
+hop_near c sig o es start b None told = tt
+hop_near c sig o es start b (Some q) told = subst (λ n. IfSome (first_of (cons_option (hop_step b n) [])) (λ t. t ≤ o.hop)) (sym told.1) (if_near (nat_eq b b) told.0 o.hop told.2.near)
+
+hop_end_fits : (c : Parts) (sig : List ℕ) (o : Options) (es : List Entry) (b : ℕ) (seed : Option SeedLine) (hop : SearchBlocks) → o.hop < 2 ^ 32 → IsHopEnd c sig o es b seed hop
+    → FitsHop (hop_bound o (optional hop.spent) b seed)
+hop_end_fits c sig o es b None hop far h = tt
+hop_end_fits c sig o es b (Some s) hop far h =
+    let step = first_step (hop_step b) (optional hop.spent) in
+    hop_fits_of (whole_up_to o.hop step) (whole_fits o.hop step far (hop_near c sig o es (State s.state) b hop.spent h.spent))
 
 hops_fit : (c : Parts) (sig : List ℕ) (o : Options) (es : List Entry) (n : ℕ) (ends : List BatchEnd) → o.hop < 2 ^ 32
-    → ((k : ℕ) (end : BatchEnd) → slice_get ends k ≡ Some end → IsHopEnd c sig o es (n + k) end.seed end.spent) → AllByRecursion FitsHop (map (λ p. end_bound o p.0 p.1) (enumerate_from n ends))
+    → ((k : ℕ) (end : BatchEnd) → slice_get ends k ≡ Some end → IsHopEnd c sig o es (n + k) end.seed end.hop) → AllByRecursion FitsHop (map (λ p. end_bound o p.0 p.1) (enumerate_from n ends))
 hops_fit c sig o es n [] far h = tt
 hops_fit c sig o es n (x ∷ ends) far h = (
-  hop_end_fits c sig o es n x.seed x.spent far (subst (λ (b : ℕ). IsHopEnd c sig o es b x.seed x.spent) (let e : n + 0 ≡ n = omega arith in e) (h 0 x refl)),
-  hops_fit c sig o es (n + 1) ends far (λ k end e. subst (λ (b : ℕ). IsHopEnd c sig o es b end.seed end.spent) (let s : n + suc k ≡ n + 1 + k = omega arith in s) (h (suc k) end e)),
+  hop_end_fits c sig o es n x.seed x.hop far (subst (λ (b : ℕ). IsHopEnd c sig o es b x.seed x.hop) (let e : n + 0 ≡ n = omega arith in e) (h 0 x refl)),
+  hops_fit c sig o es (n + 1) ends far (λ k end e. subst (λ (b : ℕ). IsHopEnd c sig o es b end.seed end.hop) (let s : n + suc k ≡ n + 1 + k = omega arith in s) (h (suc k) end e)),
 )
 
 strength_fits : (o : Options) (p : ProverEnd) (cut : Bool) → o.strength < 2 ^ 32 → IfSome (cond cut None (strength_after o p)) (λ s. s < 2 ^ 32)
@@ -268,18 +277,16 @@ strength_fits o AllSettled false fits = fits
 strength_fits o (Spent b) false fits = tt
 strength_fits o (Whole inv spents) false fits = fits
 
-sweep_near : (c : Parts) (sig : List ℕ) (o : Options) (es : List Entry) (spent : Option Block) → IsSweepEnd c sig o es spent → IfSome (first_step sweep_step (optional spent)) (λ t. t ≤ o.depth)
+sweep_near : (c : Parts) (sig : List ℕ) (o : Options) (es : List Entry) (spent : Option Block) → IsSpentStep c sig o es Reset o.depth searches.Sweep spent → IfSome (first_step sweep_step (optional spent)) (λ t. t ≤ o.depth)
 sweep_near c sig o es None told = tt
-sweep_near c sig o es (Some b) told =
-    let search = told.spent in
-    subst (λ n. IfSome (first_of (cons_option (sweep_step n) [])) (λ t. t ≤ o.depth)) (sym search.1) search.2.near
+sweep_near c sig o es (Some b) told = subst (λ n. IfSome (first_of (cons_option (sweep_step n) [])) (λ t. t ≤ o.depth)) (sym told.1) told.2.near
 
 pub open_fits : (c : Parts) (sig : List ℕ) (o : Options) (es : List Entry) (ends : Ends) (bounds : OpenBounds) (goals g : ℕ) → FitsOptions o → AreTold c sig o es ends → AreBounds o goals ends bounds
     → FitsBlock (length c.inputs) (length c.latches) (open_block bounds g)
 open_fits c sig o es ends bounds goals g fits told are = record {
-  depth_fits = subst (λ (x : Option ℕ). IfSome x (λ d. d < 2 ^ 32)) (sym are.depth) (whole_fits o.depth (first_step sweep_step (optional ends.sweep)) fits.depth (sweep_near c sig o es ends.sweep told.sweep));
+  depth_fits = subst (λ (x : Option ℕ). IfSome x (λ d. d < 2 ^ 32)) (sym are.depth) (whole_fits o.depth (first_step sweep_step (optional ends.sweep.spent)) fits.depth (sweep_near c sig o es ends.sweep.spent told.sweep.spent));
   hops_fit = subst (λ (hs : List HopBound). AllByRecursion FitsHop hs) (sym are.hops)
-      (hops_fit c sig o es 0 ends.batches fits.hop (λ k end e. subst (λ (b : ℕ). IsHopEnd c sig o es b end.seed end.spent) (let s : k ≡ 0 + k = omega arith in s) (told.batches.each k end e).hop));
+      (hops_fit c sig o es 0 ends.batches fits.hop (λ k end e. subst (λ (b : ℕ). IsHopEnd c sig o es b end.seed end.hop) (let s : k ≡ 0 + k = omega arith in s) (told.batches.each k end e).hop));
   strength_fits = subst (λ (x : Option ℕ). IfSome (cond (get_or bounds.cut g false) None x) (λ s. s < 2 ^ 32)) (sym are.strength) (strength_fits o ends.prover (get_or bounds.cut g false) fits.strength);
 }
 

@@ -1,33 +1,29 @@
 -- What the hop from a batch's seed finds, as findings, and how the hop ends.
-use Rattle.std.proofs.Common.{◌≡◌, ◌≢◌, ℕ, zero, suc, ◌+◌, ◌-◌, ◌<◌, ◌≤◌, Bool, List, [], ◌∷◌, ◌++◌, map, length, get_or, refl, sym, ap, subst, ◌∙◌, arith, length-append, AllPairs, Contains, Option, Some, None, inl, inr}
-use Rattle.std.specs.Prelude.{option_map, IfSome}
+use Rattle.std.proofs.Common.{◌≡◌, ◌≢◌, ℕ, ◌+◌, ◌-◌, ◌<◌, ◌≤◌, Bool, List, [], ◌∷◌, ◌++◌, map, length, get_or, refl, sym, ap, subst, ◌∙◌, arith, length-append, AllPairs, Contains, Option, Some, None, inl, inr}
 use Rattle.std.proofs.lemmas.List.{append-nil, map-append, length-map, get_or-map, get_or-append-add}
-use Rattle.std.proofs.lemmas.List.Elements.{All-map, All-nil, Contains-get_or, Contains-append_left, Contains-append_right}
-use Rattle.std.proofs.lemmas.Option.{none-some}
+use Rattle.std.proofs.lemmas.List.Elements.{All-map, All-nil, Contains-append_left, Contains-append_right}
 use Rattle.aig_model.specs.Meaning.{At, Run, goal_of, input_values, state_after}
 use Rattle.aig_model.specs.Replays.{Shows}
 use Rattle.aig_model.specs.declared.parts.Parts.{Parts}
 use Rattle.aig_model.proofs.Paths.{length-state_after}
 use Rattle.aig_model.proofs.Runs.{run_append}
-use Rattle.board_core.specs.declared.entry.Entry.{Entry}
 use Rattle.board_core.specs.declared.entry.Source.TheVariants.{Hop}
-use Rattle.report_text.specs.declared.report.Block.{Block}
-use Rattle.report_text.specs.declared.report.BlockName.TheVariants as names
 use Rattle.sim_batch.specs.Seeds.{SeedState, IsSeed}
 use Rattle.sim_walk.specs.declared.options.Options.{Options}
-use Rattle.sweep_search.specs.Sweep.{goals_of as found_goals, IsBefore, IsEndFrom, IsFirstFrom, IsHopFrom, IsSettled}
+use Rattle.sweep_search.specs.Sweep.{goals_of as found_goals, IsFirstFrom, IsHopFrom, IsSettled}
 use Rattle.sweep_search.specs.declared.swept.FoundGoal.{FoundGoal}
-use Rattle.sweep_search.specs.declared.swept.SpentQuery.{SpentQuery}
 use Rattle.sweep_search.specs.declared.swept.Swept.{Swept}
+use Rattle.unroll.specs.Frames.{vars_before}
 use Rattle.unroll.specs.declared.start.Start.TheVariants.{State}
+use Rattle.run_report.specs.declared.ends.SearchBlocks.{SearchBlocks}
 use Rattle.run_report.specs.declared.posts.Finding.{Finding}
-use Rattle.run_report.specs.Batches.{IsFoundBy, Adds, AreKnown, HaveEntries, AddsHop, AddsHopEnd, hop_block, hop_finding, line_of}
-use Rattle.run_report.specs.Bounds.{hop_step, first_step, whole_up_to}
-use Rattle.run_report.specs.Ends.{optional}
-use Rattle.run_report.specs.Queries.{IsSpentSearch}
+use Rattle.run_report.specs.declared.searches.Search.TheVariants as searches
+use Rattle.run_report.specs.Batches.{IsFoundBy, Adds, AreKnown, AddsHop, AddsHopEnd, hop_finding, line_of}
+use Rattle.run_report.specs.Ends.{no_blocks}
 use Rattle.run_report.specs.Run.{goals_of}
-use Rattle.run_report.specs.Seeds.{IsSeedOfBatch}
-use Rattle.run_report.proofs.History.{same_test}
+use Rattle.run_report.specs.Searches.{blocks_of}
+use Rattle.goal_facts.specs.Seeds.{IsSeedOfBatch}
+use Rattle.run_report.proofs.SearchSteps.{AreEntered, refuted_told, spent_told, whole_settles}
 
 -- ---- the seed
 pub seed_of_circuit : (c : Parts) (sig : List ℕ) (o : Options) (batch : ℕ) (seed : SeedState) → IsSeedOfBatch c sig o batch (Some seed) → seed.circuit ≡ c
@@ -103,7 +99,8 @@ pub record IsHopped (c : Parts) (sig : List ℕ) (o : Options) (batch : ℕ) (se
   pub inside : batch < o.batches
   pub seed_of : IsSeedOfBatch c sig o batch (Some seed)
   pub known_is : AreKnown sig old known
-  pub hop : IsHopFrom c sig seed.state known o.hop o.lemmas s
+  pub room : vars_before c (o.hop + 1) ≤ 4000000
+  pub hop : IsHopFrom c sig seed.state known o.hop o.lemmas o.proofs s
   pub after : new ≡ old ++ map (hop_finding batch seed) s.found
 
 hop_adds : (c : Parts) (sig : List ℕ) (o : Options) (batch : ℕ) (seed : SeedState) (known : List Bool) (old new : List Finding) (s : Swept)
@@ -130,57 +127,24 @@ hop_settled c sig o batch seed known old new s goal h settled =
     ])
 
 -- ---- how it ends
--- the last whole step comes before the spent one
-before_spent : (hop step h : ℕ) → whole_up_to hop (Some step) ≡ Some h → h < step
-before_spent hop zero h e = absurd (none-some h e)
-before_spent hop (suc t) h e = let same : t ≡ h = cc in omega (arith, same)
-
--- the step of a spent query of this batch's hop
-spent_step : (batch : ℕ) (q : SpentQuery) → first_step (hop_step batch) (optional (Some (hop_block batch q))) ≡ Some q.step
-spent_step batch q = rw (same_test batch batch refl) refl
-
-hop_settles : (c : Parts) (sig : List ℕ) (o : Options) (batch : ℕ) (seed : SeedState) (known : List Bool) (s : Swept) (spent : Option SpentQuery) (h t goal : ℕ) → s.spent ≡ spent
-    → IsHopFrom c sig seed.state known o.hop o.lemmas s → IsEndFrom c sig (State seed.state) known o.hop o.lemmas s.found s.upto spent
-    → whole_up_to o.hop (first_step (hop_step batch) (optional (option_map (hop_block batch) spent))) ≡ Some h → t ≤ h → At c sig seed.state t goal → IsSettled known s.found goal
-hop_settles c sig o batch seed known s None h t goal same hopped end e near at =
-    let whole : o.hop ≡ h = cc in
-    hopped.settles t goal (omega (arith, whole, near)) (subst (IsBefore t) (sym same) tt) (t, omega arith, at)
-hop_settles c sig o batch seed known s (Some q) h t goal same hopped end e near at =
-    let before : h < q.step = before_spent o.hop q.step h (ap (whole_up_to o.hop) (sym (spent_step batch q)) ∙ e) in
-    let sooner : t < q.step = omega (arith, before, near) in
-    hopped.settles t goal (omega (arith, sooner, end.0)) (subst (IsBefore t) (sym same) sooner) (t, omega arith, at)
-
-hop_spent : (c : Parts) (sig : List ℕ) (o : Options) (batch : ℕ) (seed : SeedState) (known : List Bool) (old new : List Finding) (s : Swept) (es : List Entry) (spent : Option SpentQuery)
-    → IsHopped c sig o batch seed known old new s → HaveEntries new es → IsEndFrom c sig (State seed.state) known o.hop o.lemmas s.found s.upto spent
-    → IfSome (option_map (hop_block batch) spent) (λ (b : Block). (step : ℕ) × (b.name ≡ names.Hop batch step) × IsSpentSearch c sig o.lemmas es (State seed.state) o.hop step b)
-hop_spent c sig o batch seed known old new s es None h have end = tt
-hop_spent c sig o batch seed known old new s es (Some q) h have end = (
-  q.step,
-  refl,
-  record {
-    near = end.0;
-    left_out = record {
-      rising = end.1.rising;
-      settled = λ k d l. have (get_or q.blocked k d)
-          (hop_settled c sig o batch seed known old new s (get_or q.blocked k d) h ((end.1.blocked (get_or q.blocked k d)).0 (Contains-get_or q.blocked k d l)));
-    };
-    spent = record { spent = end.1.spending.spent; earned = end.1.spending.earned; written = end.1.spending.written };
-  },
-)
-
 pub hop_whole : (c : Parts) (sig : List ℕ) (o : Options) (batch : ℕ) (seed : SeedState) (known : List Bool) (old new : List Finding) (s : Swept)
-    → IsHopped c sig o batch seed known old new s → AddsHop c sig o batch seed old new (option_map (hop_block batch) s.spent)
+    → IsHopped c sig o batch seed known old new s → AddsHop c sig o batch seed old new (blocks_of (searches.Hop batch) s.refuted s.spent)
 hop_whole c sig o batch seed known old new s h = record {
   adds = hop_adds c sig o batch seed known old new s h;
-  end = λ es have. record {
-    settles = λ last t goal e near at. have goal
-        (hop_settled c sig o batch seed known old new s goal h (hop_settles c sig o batch seed known s s.spent last t goal refl h.hop h.hop.end e near at));
-    spent = hop_spent c sig o batch seed known old new s es s.spent h have h.hop.end;
-  };
+  end = λ es have. (
+      let start = State seed.state in
+      let search = searches.Hop batch in
+      let entered : AreEntered known s es = λ goal settled. have goal (hop_settled c sig o batch seed known old new s goal h settled) in
+      record {
+        settles = λ last t goal e near at. entered goal (whole_settles c sig start known o.hop o.lemmas o.proofs search s s.spent last goal refl h.hop h.hop.end e (t, near, at));
+        spent = spent_told c sig o es start o.hop search known s s.spent entered h.hop.end;
+        refuted = refuted_told o.proofs c sig o es start o.hop search known s h.room entered h.hop;
+      }
+      );
 }
 
 -- ---- with a seed, or without one
-pub no_hop : (c : Parts) (sig : List ℕ) (o : Options) (batch : ℕ) (fs : List Finding) → AddsHopEnd c sig o batch None fs fs (record { seed = None; spent = None })
+pub no_hop : (c : Parts) (sig : List ℕ) (o : Options) (batch : ℕ) (fs : List Finding) → AddsHopEnd c sig o batch None fs fs (record { seed = None; hop = no_blocks })
 no_hop c sig o batch fs = record {
   adds = record {
     more = [];
@@ -193,9 +157,9 @@ no_hop c sig o batch fs = record {
   end_is = λ es have. refl;
 }
 
-pub with_hop : (c : Parts) (sig : List ℕ) (o : Options) (batch : ℕ) (seed : SeedState) (old new : List Finding) (spent : Option Block) → IsSeedOfBatch c sig o batch (Some seed)
-    → AddsHop c sig o batch seed old new spent → AddsHopEnd c sig o batch (Some seed) old new (record { seed = Some (line_of seed); spent = spent })
-with_hop c sig o batch seed old new spent of h = record {
+pub with_hop : (c : Parts) (sig : List ℕ) (o : Options) (batch : ℕ) (seed : SeedState) (old new : List Finding) (hop : SearchBlocks) → IsSeedOfBatch c sig o batch (Some seed)
+    → AddsHop c sig o batch seed old new hop → AddsHopEnd c sig o batch (Some seed) old new (record { seed = Some (line_of seed); hop = hop })
+with_hop c sig o batch seed old new hop of h = record {
   adds = h.adds;
   seed_is = (
       let P : Parts → Option SeedState = λ p. Some (record { circuit = p; start = seed.start; rows = seed.rows; state = seed.state }) in

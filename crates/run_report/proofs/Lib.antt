@@ -9,9 +9,13 @@ pub mod History
 pub mod Hopping
 pub mod Posting
 pub mod Proven
+pub mod Refuted
+pub mod RefuteForms
 pub mod ReportForm
+pub mod SearchSteps
 pub mod Searching
 pub mod Settling
 pub mod Told
 pub mod TrueReports
 pub mod Walking
+pub mod Whole

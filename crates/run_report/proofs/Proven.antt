@@ -1,6 +1,6 @@
 -- What the prover finds makes a history with what was found before it, and its end is told by that.
-use Rattle.std.proofs.Common.{◌≡◌, ◌≢◌, ◌⊎◌, ℕ, ◌+◌, ◌<◌, ◌^◌, ◌↔◌, ℤ, Bool, true, List, [], ◌∷◌, ◌++◌, map, length, get_or, refl, sym, ap, subst, ◌∙◌, arith, All, AllPairs, Any, Contains, Option, Some, None, inl, inr}
-use Rattle.std.specs.Prelude.{IfSome, is_some}
+use Rattle.std.proofs.Common.{◌≡◌, ◌≢◌, ◌⊎◌, ℕ, ◌+◌, ◌<◌, ◌^◌, ◌↔◌, ℤ, Bool, true, false, List, [], ◌∷◌, ◌++◌, map, length, get_or, refl, sym, ap, subst, ◌∙◌, arith, All, AllPairs, Any, Contains, Option, Some, None, inl, inr}
+use Rattle.std.specs.Prelude.{is_some}
 use Rattle.std.proofs.lemmas.Bool.{cases_eq, false≢true}
 use Rattle.std.proofs.lemmas.List.{map-append, length-map, get_or-map}
 use Rattle.std.proofs.lemmas.List.Elements.{All-append, All-nil, All-weaker, Contains-append_left, Contains-append_right}
@@ -13,22 +13,23 @@ use Rattle.inv_prover.proofs.Shrinking.{greatest_is_invariant}
 use Rattle.sim_walk.specs.declared.options.Options.{Options}
 use Rattle.board_core.specs.declared.entry.Entry.{Entry}
 use Rattle.report_text.specs.declared.report.Block.{Block}
-use Rattle.report_text.specs.declared.report.BlockName.TheVariants as names
 use Rattle.report_text.specs.declared.report.Inv.{Inv}
 use Rattle.sweep_search.specs.Sweep.{IsMarked}
 use Rattle.unroll.specs.declared.start.Start.TheVariants.{Reset}
 use Rattle.run_report.specs.declared.ends.Ends.{Ends}
+use Rattle.run_report.specs.declared.ends.SearchBlocks.{SearchBlocks}
 use Rattle.run_report.specs.declared.ends.ProverEnd.{ProverEnd}
 use Rattle.run_report.specs.declared.ends.ProverEnd.TheVariants.{NotRun, AllSettled, Spent, Whole}
 use Rattle.run_report.specs.declared.posts.Basis.{Basis}
 use Rattle.run_report.specs.declared.posts.Basis.TheVariants.{Witness, Proof}
 use Rattle.run_report.specs.declared.posts.Finding.{Finding}
+use Rattle.run_report.specs.declared.searches.Search.TheVariants as searches
 use Rattle.run_report.specs.Batches.{AddsBatches}
-use Rattle.run_report.specs.Ends.{AreTold, IsExcludesQuery, IsProverEnd, IsSearchTold, inv_of, proves}
+use Rattle.run_report.specs.Ends.{AreRefutedStepsIf, AreTold, IsExcludesQuery, IsProverEnd, IsSearchTold, IsSpentStep, inv_of, last_whole, proves}
 use Rattle.run_report.specs.Invariants.{IsInv}
 use Rattle.run_report.specs.Posts.{entries_of, posts_of, HasEntry, IsBasis, IsFinding, IsHistory}
 use Rattle.run_report.specs.Proving.{IsAnswered, IsProof, IsProvingTo, IsSpentBlock}
-use Rattle.run_report.specs.Queries.{IsSpentSearch, item_of}
+use Rattle.run_report.specs.Queries.{AreLeftOut, item_of}
 use Rattle.run_report.specs.Lines.{AreShort, HasShortBasis, HasShortKept, IsShort}
 use Rattle.run_report.specs.Run.{goals_of}
 use Rattle.run_report.specs.declared.posts.Post.{Post}
@@ -166,27 +167,39 @@ proven_proves c sig o known fs (Spent b) h = refl
 proven_proves c sig o known fs (Whole inv spents) h = refl
 
 -- the end of a search is told by more entries
-search_with : (c : Parts) (sig : List ℕ) (o : Options) (es more : List Entry) (spent : Option Block) → ((g : ℕ) → HasEntry es g → HasEntry more g)
-    → IfSome spent (λ (b : Block). (step : ℕ) × (b.name ≡ names.Sweep step) × IsSpentSearch c sig o.lemmas es Reset o.depth step b)
-    → IfSome spent (λ (b : Block). (step : ℕ) × (b.name ≡ names.Sweep step) × IsSpentSearch c sig o.lemmas more Reset o.depth step b)
-search_with c sig o es more None keeps h = tt
-search_with c sig o es more (Some b) keeps h = (
-  h.0,
-  h.1,
-  record {
-    near = h.2.near;
-    left_out = record { rising = h.2.left_out.rising; settled = λ k d l. keeps (get_or b.blocked k d) (h.2.left_out.settled k d l) };
-    spent = h.2.spent;
-  },
-)
+left_out_with : (es more : List Entry) (goals : List ℕ) → ((g : ℕ) → HasEntry es g → HasEntry more g) → AreLeftOut es goals → AreLeftOut more goals
+left_out_with es more goals keeps h = record { rising = h.rising; settled = λ k d l. keeps (get_or goals k d) (h.settled k d l) }
 
-told_with : (c : Parts) (sig : List ℕ) (o : Options) (es more : List Entry) (spent : Option Block) → ((g : ℕ) → HasEntry es g → HasEntry more g) → IsSearchTold c sig o es spent
-    → IsSearchTold c sig o more spent
-told_with c sig o es more spent keeps told = record {
+spent_with : (c : Parts) (sig : List ℕ) (o : Options) (es more : List Entry) (spent : Option Block) → ((g : ℕ) → HasEntry es g → HasEntry more g)
+    → IsSpentStep c sig o es Reset o.depth searches.Sweep spent → IsSpentStep c sig o more Reset o.depth searches.Sweep spent
+spent_with c sig o es more None keeps h = tt
+spent_with c sig o es more (Some b) keeps h = (h.0, h.1, record { near = h.2.near; left_out = left_out_with es more b.blocked keeps h.2.left_out; spent = h.2.spent })
+
+refuted_with : (proofs : Bool) (c : Parts) (sig : List ℕ) (o : Options) (es more : List Entry) (bound : Option ℕ) (bs : List Block) → ((g : ℕ) → HasEntry es g → HasEntry more g)
+    → AreRefutedStepsIf proofs c sig o es Reset o.depth searches.Sweep bound bs → AreRefutedStepsIf proofs c sig o more Reset o.depth searches.Sweep bound bs
+refuted_with false c sig o es more bound bs keeps h = h
+refuted_with true c sig o es more bound bs keeps h = record {
+  each = λ step b e. (
+      let own = h.each step b e in
+      record {
+        name = own.name;
+        refuted = record { left_out = left_out_with es more b.blocked keeps own.refuted.left_out; accepted = own.refuted.accepted; written = own.refuted.written };
+        short = own.short;
+      }
+      );
+  near = h.near;
+  few = h.few;
+  whole = λ goal below left. h.whole goal below (λ has. left (keeps goal has));
+}
+
+told_with : (c : Parts) (sig : List ℕ) (o : Options) (es more : List Entry) (sweep : SearchBlocks) → ((g : ℕ) → HasEntry es g → HasEntry more g) → IsSearchTold c sig o es sweep
+    → IsSearchTold c sig o more sweep
+told_with c sig o es more sweep keeps told = record {
   visited = λ goal visited. keeps goal (told.visited goal visited);
   ended = record {
     settles = λ d goal e w. keeps goal (told.ended.settles d goal e w);
-    spent = search_with c sig o es more spent keeps told.ended.spent;
+    spent = spent_with c sig o es more sweep.spent keeps told.ended.spent;
+    refuted = refuted_with o.proofs c sig o es more (last_whole o.depth searches.Sweep sweep) sweep.refuted keeps told.ended.refuted;
   };
 }
 
@@ -205,18 +218,18 @@ prover_with c sig o es more (Whole inv spents) keeps h = record {
 
 -- ---- both
 -- what is known after the searches and the prover
-pub record IsRun (c : Parts) (sig : List ℕ) (o : Options) (known : List Bool) (fs more : List Finding) (spent : Option Block) (end : ProverEnd) : Type 0 where
+pub record IsRun (c : Parts) (sig : List ℕ) (o : Options) (known : List Bool) (fs more : List Finding) (sweep : SearchBlocks) (end : ProverEnd) : Type 0 where
   pub circuit : IsCircuit c
   pub signals : IsSignals c sig
   pub found : All (IsFinding c sig o None) fs
   pub once : AllPairs (λ m n. m ≢ n) (goals_of fs)
   pub marks : (goal : ℕ) → IsMarked known goal ↔ Contains (goals_of fs) goal
-  pub told : IsSearchTold c sig o (entries_of (posts_of fs)) spent
+  pub told : IsSearchTold c sig o (entries_of (posts_of fs)) sweep
   pub proven : IsProvingTo c sig o known more end
 
-run_history : (c : Parts) (sig : List ℕ) (o : Options) (known : List Bool) (fs more : List Finding) (spent : Option Block) (end : ProverEnd) → IsRun c sig o known fs more spent end
+run_history : (c : Parts) (sig : List ℕ) (o : Options) (known : List Bool) (fs more : List Finding) (sweep : SearchBlocks) (end : ProverEnd) → IsRun c sig o known fs more sweep end
     → IsHistory c sig o (inv_of end) (posts_of (fs ++ more))
-run_history c sig o known fs more spent end h =
+run_history c sig o known fs more sweep end h =
     let first : All (IsFinding c sig o (inv_of end)) fs = All-weaker (IsFinding c sig o None) (IsFinding c sig o (inv_of end)) (λ f p. finding_with c sig o (inv_of end) f p) fs h.found in
     posts_history c sig o (inv_of end) (fs ++ more)
     (All-append (IsFinding c sig o (inv_of end)) fs more first (proven_found c sig o known more end h.circuit h.signals h.proven))
@@ -225,17 +238,17 @@ run_history c sig o known fs more spent end h =
     (λ x y a b same. proven_new c sig o known more end y h.proven b ((h.marks y).1 (subst (Contains (goals_of fs)) same a)))))
 
 -- what the ends of the first jobs say
-pub record IsRunTold (c : Parts) (sig : List ℕ) (o : Options) (es : List Entry) (spent : Option Block) (end : ProverEnd) : Type 0 where
-  pub search : IsSearchTold c sig o es spent
+pub record IsRunTold (c : Parts) (sig : List ℕ) (o : Options) (es : List Entry) (sweep : SearchBlocks) (end : ProverEnd) : Type 0 where
+  pub search : IsSearchTold c sig o es sweep
   pub prover : IsProverEnd c sig o es end
 
-run_told : (c : Parts) (sig : List ℕ) (o : Options) (known : List Bool) (fs more : List Finding) (spent : Option Block) (end : ProverEnd) → IsRun c sig o known fs more spent end
-    → IsRunTold c sig o (entries_of (posts_of (fs ++ more))) spent end
-run_told c sig o known fs more spent end h =
+run_told : (c : Parts) (sig : List ℕ) (o : Options) (known : List Bool) (fs more : List Finding) (sweep : SearchBlocks) (end : ProverEnd) → IsRun c sig o known fs more sweep end
+    → IsRunTold c sig o (entries_of (posts_of (fs ++ more))) sweep end
+run_told c sig o known fs more sweep end h =
     let es = entries_of (posts_of (fs ++ more)) in
     let keeps : (g : ℕ) → HasEntry (entries_of (posts_of fs)) g → HasEntry es g = more_entries fs more in
     record {
-      search = told_with c sig o (entries_of (posts_of fs)) es spent keeps h.told;
+      search = told_with c sig o (entries_of (posts_of fs)) es sweep keeps h.told;
       prover = proven_end c sig o known more end es (λ g marked. keeps g (has_entry_of fs g ((h.marks g).0 marked))) (entries_found fs more) h.proven;
     }
 
@@ -271,9 +284,9 @@ posts_short fs all = λ k d l. (
     subst (λ (p : Post). HasShortBasis p.basis) (sym post.is) own
     )
 
-run_short : (c : Parts) (sig : List ℕ) (o : Options) (known : List Bool) (fs more : List Finding) (spent : Option Block) (end : ProverEnd) → o.lemmas + 1 < 2 ^ 32 → IsRun c sig o known fs more spent end
+run_short : (c : Parts) (sig : List ℕ) (o : Options) (known : List Bool) (fs more : List Finding) (sweep : SearchBlocks) (end : ProverEnd) → o.lemmas + 1 < 2 ^ 32 → IsRun c sig o known fs more sweep end
     → All (λ (f : Finding). HasShortBasis f.basis) (fs ++ more)
-run_short c sig o known fs more spent end few h =
+run_short c sig o known fs more sweep end few h =
     All-append (λ (f : Finding). HasShortBasis f.basis) fs more
     (All-weaker (IsFinding c sig o None) (λ (f : Finding). HasShortBasis f.basis) (λ f p. short_old c sig f.goal f.basis p.basis) fs h.found)
     (proven_short c sig o known more end few h.proven)
@@ -314,9 +327,9 @@ whole_short c sig o known fs more all ends h = record {
 }
 
 -- the goals of what the first jobs find are in range
-pub run_below : (c : Parts) (sig : List ℕ) (o : Options) (known : List Bool) (fs more : List Finding) (spent : Option Block) (end : ProverEnd) → IsRun c sig o known fs more spent end
+pub run_below : (c : Parts) (sig : List ℕ) (o : Options) (known : List Bool) (fs more : List Finding) (sweep : SearchBlocks) (end : ProverEnd) → IsRun c sig o known fs more sweep end
     → All (λ goal. goal < 2 ^ length sig) (goals_of (fs ++ more))
-run_below c sig o known fs more spent end h =
+run_below c sig o known fs more sweep end h =
     found_below c sig o (inv_of end) (fs ++ more)
     (All-append (IsFinding c sig o (inv_of end)) fs more
     (All-weaker (IsFinding c sig o None) (IsFinding c sig o (inv_of end)) (λ f p. finding_with c sig o (inv_of end) f p) fs h.found)

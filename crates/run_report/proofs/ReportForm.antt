@@ -14,7 +14,7 @@ use Rattle.run_report.specs.declared.ends.Ends.{Ends}
 use Rattle.run_report.specs.declared.open_goals.OpenBounds.{OpenBounds}
 use Rattle.run_report.specs.declared.posts.Post.{Post}
 use Rattle.run_report.specs.Blocks.{first_post, open_block, settled_by}
-use Rattle.run_report.specs.Ended.{all_spents, invs_from, seeds_of}
+use Rattle.run_report.specs.Ended.{all_refutes, all_spents, invs_from, seeds_of}
 use Rattle.run_report.specs.Ends.{inv_of}
 use Rattle.run_report.specs.Lines.{AreShort, HasBasisLiterals, HasShortBasis, HaveEndLiterals}
 use Rattle.run_report.specs.Posts.{IsPost, entries_of}
@@ -23,7 +23,9 @@ use Rattle.run_report.specs.Report.{is_open, is_reached, is_unreachable}
 use Rattle.run_report.proofs.Fitting.{invs_fit, open_fits, queries_fit, seeds_fit, settled_fits, spents_literals}
 use Rattle.run_report.proofs.Forms.{entry_fits, few_entries, few_goals}
 use Rattle.run_report.proofs.History.{first_placed}
-use Rattle.run_report.proofs.Told.{IsComposed, block_is, post_at_place, report_tells, seeds_tell, spents_tell}
+use Rattle.run_report.proofs.RefuteForms.{refutes_fit}
+use Rattle.run_report.proofs.Told.{IsComposed, block_is, post_at_place, seeds_tell, spents_tell}
+use Rattle.run_report.proofs.Whole.{report_tells}
 
 -- what the form needs beside what the report is made of
 pub record IsFit (o : Options) (posts : List Post) (ends : Ends) : Type 0 where
@@ -64,6 +66,7 @@ report_form c sig o posts ends bounds opens bs r fit h =
     let legal : IsLegalHistory o (2 ^ length sig) es = h.history.legal in
     let short : length es ≤ 8192 = few_entries o (2 ^ length sig) es legal few in
     let spents : r.spents ≡ all_spents ends = h.holds.spents ∙ h.spents_are in
+    let refutes : r.refutes ≡ all_refutes ends = h.holds.refutes ∙ h.refutes_are in
     let seeds : r.seeds ≡ seeds_of ends.batches = h.holds.seeds ∙ h.seeds_are in
     let invs : r.invs ≡ invs_from (count_by is_unreachable bs) (inv_of ends.prover) = h.holds.invs ∙ h.invs_are in
     let lines = seeds_tell c sig o es ends.batches h.told.batches in
@@ -86,7 +89,7 @@ report_form c sig o posts ends bounds opens bs r fit h =
       };
       spents = rw spents (queries_fit c sig o es (seeds_of ends.batches) (all_spents ends) h.circuit legal few fit.ranges fit.options.depth fit.options.hop (omega (arith, lines.count, fit.ranges.batches))
           (spents_tell c sig o es ends h.told) (spents_literals ends fit.end_literals));
-      refutes = rw h.holds.refutes (record { count = omega arith; items = tt });
+      refutes = rw refutes (refutes_fit c sig o es ends legal few fit.ranges (omega (arith, h.told.batches.count, fit.ranges.batches)) h.told fit.end_literals);
       reached = omega (arith, tells.reached, count_by-le-length is_reached r.goals, count, few);
       unreachable = omega (arith, tells.unreachable, count_by-le-length is_unreachable r.goals, count, few);
       unsettled = omega (arith, tells.unsettled, count_by-le-length is_open r.goals, count, few);

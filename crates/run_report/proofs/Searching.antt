@@ -1,18 +1,16 @@
 -- What the walk and the sweep find makes a history, and their ends are told by it.
-use Rattle.std.proofs.Common.{◌≡◌, ◌≢◌, ℕ, zero, suc, ◌+◌, ◌-◌, ◌<◌, ◌≤◌, ◌^◌, ◌↔◌, Bool, true, false, List, [], ◌∷◌, ◌++◌, map, take, length, get_or, set, refl, sym, ap, subst, ◌∙◌, arith, All, Contains, Option, Some, None, inl, inr}
-use Rattle.std.specs.Prelude.{slice_get, option_map, AllPairs, IfSome}
+use Rattle.std.proofs.Common.{◌≡◌, ◌≢◌, ℕ, zero, suc, ◌+◌, ◌-◌, ◌<◌, ◌≤◌, ◌^◌, ◌↔◌, Bool, true, false, List, [], ◌∷◌, ◌++◌, map, take, length, get_or, set, refl, sym, ap, subst, ◌∙◌, arith, All, Contains, Some, None, inl, inr}
+use Rattle.std.specs.Prelude.{slice_get, AllPairs}
 use Rattle.std.specs.List.{AllZip}
 use Rattle.std.proofs.lemmas.Bool.{cases_eq}
 use Rattle.std.proofs.lemmas.List.{map-append, map_push, length-map, get_or-map, get_or-set_same, get_or-set_other, take_more}
-use Rattle.std.proofs.lemmas.List.Elements.{All-append, Contains-get_or, Contains-append_left, Contains-append_right, Contains-push, Contains-push_cases}
+use Rattle.std.proofs.lemmas.List.Elements.{All-append, Contains-append_left, Contains-append_right, Contains-push, Contains-push_cases}
 use Rattle.std.proofs.lemmas.Slice.Zip.{all_zipped_more}
-use Rattle.std.proofs.lemmas.Option.{none-some, slice_get-get_or, slice_get_within, get_or_from_slice_get}
+use Rattle.std.proofs.lemmas.Option.{slice_get-get_or, slice_get_within, get_or_from_slice_get}
 use Rattle.aig_model.specs.Meaning.{Within, goal_of, input_values}
 use Rattle.aig_model.specs.declared.parts.Parts.{Parts}
 use Rattle.board_core.specs.History.{IsInRange, kind_of}
 use Rattle.board_core.specs.declared.entry.Source.{Source}
-use Rattle.report_text.specs.declared.report.Block.{Block}
-use Rattle.report_text.specs.declared.report.BlockName.TheVariants as names
 use Rattle.sim_walk.specs.declared.options.Options.{Options}
 use Rattle.sim_walk.specs.declared.visit.Visit.{Visit}
 use Rattle.sim_walk.specs.Walk.{goals_of as visited_goals, IsVisited}
@@ -20,22 +18,23 @@ use Rattle.sim_walk.specs.Zero.{zero_lanes, AreZeroVisits}
 use Rattle.sim_walk.proofs.Shown.{visit_shows}
 use Rattle.sim_walk.proofs.Visits.{visited_below, visits_distinct, goals_distinct, visit_inside}
 use Rattle.sweep_search.specs.declared.swept.FoundGoal.{FoundGoal}
-use Rattle.sweep_search.specs.declared.swept.SpentQuery.{SpentQuery}
 use Rattle.sweep_search.specs.declared.swept.Swept.{Swept}
-use Rattle.sweep_search.specs.Sweep.{goals_of as found_goals, IsMarked, IsSettled, IsFirstReached, IsEnd, IsBefore, IsSweep}
+use Rattle.sweep_search.specs.Sweep.{goals_of as found_goals, IsMarked, IsSettled, IsFirstReached, IsSweep}
 use Rattle.sweep_search.proofs.Searched.{reached_below}
+use Rattle.unroll.specs.Frames.{vars_before}
 use Rattle.unroll.specs.declared.start.Start.TheVariants.{Reset}
 use Rattle.run_report.specs.declared.posts.Basis.{Basis}
 use Rattle.run_report.specs.declared.posts.Finding.{Finding}
-use Rattle.run_report.specs.Bounds.{sweep_step, first_step, whole_up_to}
-use Rattle.run_report.specs.Ends.{optional, IsSearchTold}
-use Rattle.run_report.specs.Found.{Found}
+use Rattle.run_report.specs.declared.searches.Search.TheVariants as searches
+use Rattle.run_report.specs.Ends.{IsSearchTold}
+use Rattle.goal_facts.specs.Found.{Found}
 use Rattle.run_report.specs.Posts.{entries_of, kind_of_basis, HasEntry, IsBasis, IsFinding, posts_of}
-use Rattle.run_report.specs.Queries.{IsSpentSearch}
 use Rattle.run_report.specs.Ranges.{AreRunnable}
-use Rattle.run_report.specs.Run.{goals_of, IsZeroFinding, sweep_finding, sweep_block}
+use Rattle.run_report.specs.Run.{goals_of, IsZeroFinding, sweep_finding}
+use Rattle.run_report.specs.Searches.{blocks_of}
 use Rattle.run_report.proofs.Counts.{pairs_append}
 use Rattle.run_report.proofs.Posting.{has_entry_of}
+use Rattle.run_report.proofs.SearchSteps.{AreEntered, refuted_told, spent_told, whole_settles}
 
 -- ---- the walk
 -- the finding at a place is that of the visit there
@@ -150,7 +149,8 @@ pub record IsSearched (c : Parts) (sig : List ℕ) (o : Options) (vs : List Visi
   pub walked : AreZeroVisits c sig o.length vs
   pub zip : AllZip (IsZeroFinding c) vs zs
   pub marks : (goal : ℕ) → IsMarked known goal ↔ Contains (goals_of zs) goal
-  pub swept : IsSweep c sig known o.depth o.lemmas s
+  pub room : vars_before c (o.depth + 1) ≤ 4000000
+  pub swept : IsSweep c sig known o.depth o.lemmas o.proofs s
 
 abbrev pub all_findings : List Finding → Swept → List Finding
 all_findings zs s = zs ++ map sweep_finding s.found
@@ -182,48 +182,20 @@ settled_found c sig o vs zs known s goal h (inr found) =
     has_entry_of (all_findings zs s) goal
     (subst (λ (gs : List ℕ). Contains gs goal) (sym (goals_all zs s.found)) (Contains-append_right (goals_of zs) (found_goals s.found) goal found))
 
--- the last whole step comes before the spent one
-before_step : (depth step d : ℕ) → whole_up_to depth (Some step) ≡ Some d → d < step
-before_step depth zero d e = absurd (none-some d e)
-before_step depth (suc t) d e = let same : t ≡ d = cc in omega (arith, same)
-
--- how far the sweep went
-end_settles : (c : Parts) (sig : List ℕ) (o : Options) (known : List Bool) (s : Swept) (spent : Option SpentQuery) (d goal : ℕ) → s.spent ≡ spent
-    → IsSweep c sig known o.depth o.lemmas s → IsEnd c sig known o.depth o.lemmas s.found s.upto spent
-    → whole_up_to o.depth (first_step sweep_step (optional (option_map sweep_block spent))) ≡ Some d → Within c sig d goal → IsSettled known s.found goal
-end_settles c sig o known s None d goal same swept end e w =
-    let depth : o.depth ≡ d = cc in
-    swept.settles d goal (omega (arith, depth)) (subst (λ (x : Option SpentQuery). IsBefore d x) (sym same) tt) w
-end_settles c sig o known s (Some q) d goal same swept end e w =
-    let before : d < q.step = before_step o.depth q.step d e in
-    swept.settles d goal (omega (arith, before, end.0)) (subst (λ (x : Option SpentQuery). IsBefore d x) (sym same) before) w
-
-end_spent : (c : Parts) (sig : List ℕ) (o : Options) (vs : List Visit) (zs : List Finding) (known : List Bool) (s : Swept) (spent : Option SpentQuery) → IsSearched c sig o vs zs known s
-    → IsEnd c sig known o.depth o.lemmas s.found s.upto spent
-    → IfSome (option_map sweep_block spent) (λ (b : Block). (step : ℕ) × (b.name ≡ names.Sweep step) × IsSpentSearch c sig o.lemmas (entries_of (posts_of (all_findings zs s))) Reset o.depth step b)
-end_spent c sig o vs zs known s None h end = tt
-end_spent c sig o vs zs known s (Some q) h end = (
-  q.step,
-  refl,
-  record {
-    near = end.0;
-    left_out = record {
-      rising = end.1.rising;
-      settled = λ k d l. settled_found c sig o vs zs known s (get_or q.blocked k d) h ((end.1.blocked (get_or q.blocked k d)).0 (Contains-get_or q.blocked k d l));
-    };
-    spent = record { spent = end.1.spending.spent; earned = end.1.spending.earned; written = end.1.spending.written };
-  },
-)
-
+-- how it ends
 pub searched_told : (c : Parts) (sig : List ℕ) (o : Options) (vs : List Visit) (zs : List Finding) (known : List Bool) (s : Swept) → IsSearched c sig o vs zs known s
-    → IsSearchTold c sig o (entries_of (posts_of (all_findings zs s))) (option_map sweep_block s.spent)
-searched_told c sig o vs zs known s h = record {
-  visited = λ goal visited. settled_found c sig o vs zs known s goal h (inl ((h.marks goal).1 (subst (λ (gs : List ℕ). Contains gs goal) (sym (same_goals c vs zs h.zip)) (h.walked.whole visited.0 visited.1 goal visited.2))));
-  ended = record {
-    settles = λ d goal e w. settled_found c sig o vs zs known s goal h (end_settles c sig o known s s.spent d goal refl h.swept h.swept.end e w);
-    spent = end_spent c sig o vs zs known s s.spent h h.swept.end;
-  };
-}
+    → IsSearchTold c sig o (entries_of (posts_of (all_findings zs s))) (blocks_of searches.Sweep s.refuted s.spent)
+searched_told c sig o vs zs known s h =
+    let es = entries_of (posts_of (all_findings zs s)) in
+    let entered : AreEntered known s es = λ goal settled. settled_found c sig o vs zs known s goal h settled in
+    record {
+      visited = λ goal visited. entered goal (inl ((h.marks goal).1 (subst (λ (gs : List ℕ). Contains gs goal) (sym (same_goals c vs zs h.zip)) (h.walked.whole visited.0 visited.1 goal visited.2))));
+      ended = record {
+        settles = λ d goal e w. entered goal (whole_settles c sig Reset known o.depth o.lemmas o.proofs searches.Sweep s s.spent d goal refl h.swept h.swept.end e w);
+        spent = spent_told c sig o es Reset o.depth searches.Sweep known s s.spent entered h.swept.end;
+        refuted = refuted_told o.proofs c sig o es Reset o.depth searches.Sweep known s h.room entered h.swept;
+      };
+    }
 
 visited_all_below : (c : Parts) (sig : List ℕ) (steps : ℕ) (vs : List Visit) → AreZeroVisits c sig steps vs → All (λ goal. goal < 2 ^ length sig) (visited_goals vs)
 visited_all_below c sig steps [] walked = λ k d l. omega (arith, l)

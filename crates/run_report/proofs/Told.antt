@@ -1,7 +1,7 @@
 -- A report of a run tells the truth, whatever its jobs are.
 use Rattle.std.proofs.Common.{◌≡◌, ℕ, zero, suc, ◌+◌, ◌<◌, ◌≤◌, ◌^◌, ℤ, Bool, true, false, cond, List, [], ◌∷◌, ◌++◌, map, length, get_or, refl, sym, ap, subst, ◌∙◌, arith, All, Contains, Option, Some, None, inl, inr}
 use Rattle.std.specs.Prelude.{slice_get, option_map, count_by, is_some, IsSome, Any, AllPairs}
-use Rattle.std.specs.List.{cons_option, enumerate_from}
+use Rattle.std.specs.List.{cons_option, enumerate_from, flat_map}
 use Rattle.std.proofs.lemmas.Bool.{false≢true}
 use Rattle.std.proofs.lemmas.List.{length-map}
 use Rattle.std.proofs.lemmas.List.Elements.{All-append, Contains-get_or}
@@ -12,6 +12,8 @@ use Rattle.aig_model.specs.SignalList.{IsSignals}
 use Rattle.aig_model.specs.WellFormed.{IsCircuit}
 use Rattle.aig_model.specs.declared.parts.Parts.{Parts}
 use Rattle.lrat_text.specs.declared.proof.LratStep.{LratStep}
+use Rattle.unroll.specs.declared.start.Start.{Start}
+use Rattle.unroll.specs.declared.start.Start.TheVariants.{Reset, State}
 use Rattle.inv_cert.proofs.Invariance.{bars}
 use Rattle.inv_prover.specs.Greatest.{IsInGreatest}
 use Rattle.inv_prover.proofs.Shrinking.{greatest_is_invariant}
@@ -31,24 +33,28 @@ use Rattle.report_text.specs.declared.report.Report.{Report}
 use Rattle.run_report.specs.declared.ends.BatchEnd.{BatchEnd}
 use Rattle.run_report.specs.declared.ends.ProverEnd.{ProverEnd}
 use Rattle.run_report.specs.declared.ends.ProverEnd.TheVariants.{NotRun, AllSettled, Spent, Whole}
+use Rattle.run_report.specs.declared.ends.SearchBlocks.{SearchBlocks}
 use Rattle.run_report.specs.declared.ends.Ends.{Ends}
 use Rattle.run_report.specs.declared.open_goals.OpenBounds.{OpenBounds}
 use Rattle.run_report.specs.declared.posts.Basis.{Basis}
 use Rattle.run_report.specs.declared.posts.Basis.TheVariants.{Witness, Proof}
 use Rattle.run_report.specs.declared.posts.Post.{Post}
+use Rattle.run_report.specs.declared.searches.Search.TheVariants as searches
 use Rattle.run_report.specs.Blocks.{strength_at, open_block, block_by, first_post, settled_by, AreAfter, AreOpen}
 use Rattle.run_report.specs.Bounds.{Bounds, sweep_step, hop_step, proof_step, first_of, first_step, steps_of, whole_up_to, unless_spent, asked_strength, hop_of, hop_bound, bounds_of}
-use Rattle.run_report.specs.Ended.{AreBounds, NamesGoal, all_spents, end_bound, excludes_blocks, hop_blocks, hops_of, invs_from, prover_blocks, seeds_of, strength_after}
-use Rattle.run_report.specs.Ends.{AreTold, AreBatchEnds, IsSweepEnd, IsHopEnd, IsProverEnd, IsExcludesQuery, inv_of, optional, proves, scope_of}
-use Rattle.run_report.specs.Found.{Found, IsWalkVisited}
-use Rattle.run_report.specs.Invariants.{AreInvs, Excludes, IsExcluded, IsGreatestInvariant}
+use Rattle.run_report.specs.Ended.{AreBounds, NamesGoal, all_refutes, all_spents, end_bound, excludes_blocks, hop_spents, hops_of, invs_from, prover_blocks, seeds_of, spents_of, strength_after}
+use Rattle.run_report.specs.Ends.{AreTold, AreBatchEnds, IsSpentStep, IsHopEnd, IsProverEnd, IsExcludesQuery, inv_of, last_whole, optional, proves, scope_of}
+use Rattle.goal_facts.specs.Found.{Found, IsWalkVisited}
+use Rattle.goal_facts.specs.Invariants.{Excludes, IsExcluded, IsGreatestInvariant}
+use Rattle.run_report.specs.Invariants.{AreInvs}
 use Rattle.run_report.specs.Posts.{entries_of, kind_of_basis, HasEntry, IsBasis, IsPost, IsHistory}
 use Rattle.run_report.specs.Queries.{AreSpents, IsSpentQuery, ComesBefore, item_of, section_of}
-use Rattle.run_report.specs.Report.{Asked, by_zero, by_walk, by_sweep, by_hop, by_proof, IsFirst, IsBarredBy, IsBlock, Tells, is_reached, is_unreachable, is_open}
+use Rattle.run_report.specs.Report.{Asked, by_zero, by_walk, by_sweep, by_hop, by_proof, IsFirst, IsBarredBy, IsBlock, is_unreachable}
 use Rattle.run_report.specs.Scope.{Scope}
-use Rattle.run_report.specs.Seeds.{AreSeeds, IsSeedOfBatch, seed_of_line}
+use Rattle.goal_facts.specs.Seeds.{IsSeedOfBatch}
+use Rattle.run_report.specs.Seeds.{AreSeeds, seed_of_line}
 use Rattle.run_report.specs.Summed.{Holds}
-use Rattle.run_report.proofs.Counts.{pairs_append, some_unreachable, unreachable_place}
+use Rattle.run_report.proofs.Counts.{pairs_append, some_unreachable}
 use Rattle.run_report.proofs.Ending.{AreOfHops, IsOfHop, cut_found, hop_alone, only_first, only_second, only_third, own_hop, proof_alone, sweep_alone, unless_is}
 use Rattle.run_report.proofs.History.{first_of_posts, IsPlaced, first_placed, no_entry, entry_at, same_test}
 
@@ -56,7 +62,7 @@ invs_none : (n : ℕ) → invs_from n None ≡ []
 invs_none zero = refl
 invs_none (suc n) = refl
 
-plus_zero : (k : ℕ) → k ≡ 0 + k
+pub plus_zero : (k : ℕ) → k ≡ 0 + k
 plus_zero k = omega arith
 
 -- what a report is made of
@@ -74,39 +80,42 @@ pub record IsComposed (c : Parts) (sig : List ℕ) (o : Options) (posts : List P
   pub invs_are : invs ≡ invs_from (count_by is_unreachable bs) (inv_of ends.prover)
   pub spents : List Block
   pub spents_are : spents ≡ all_spents ends
-  pub holds : Holds c sig o (entries_of posts) bs seeds invs spents r
+  pub refutes : List Block
+  pub refutes_are : refutes ≡ all_refutes ends
+  pub holds : Holds c sig o (entries_of posts) bs seeds invs spents refutes r
 
 -- ---- the names of the queries
-sweep_named : (c : Parts) (sig : List ℕ) (o : Options) (es : List Entry) (spent : Option Block) → IsSweepEnd c sig o es spent → All (λ (b : Block). section_of b.name ≡ 0) (optional spent)
+sweep_named : (c : Parts) (sig : List ℕ) (o : Options) (es : List Entry) (spent : Option Block) → IsSpentStep c sig o es Reset o.depth searches.Sweep spent
+    → All (λ (b : Block). section_of b.name ≡ 0) (optional spent)
 sweep_named c sig o es None told = λ k d l. absurd (omega (arith, l))
 sweep_named c sig o es (Some b) told = λ k d l. (
-    let search = told.spent in
     let first : k ≡ 0 = omega (arith, l) in
-    subst (λ (x : ℕ). section_of (get_or (b ∷ []) x d).name ≡ 0) (sym first) (ap section_of search.1)
+    subst (λ (x : ℕ). section_of (get_or (b ∷ []) x d).name ≡ 0) (sym first) (ap section_of told.1)
     )
 
-hop_named : (c : Parts) (sig : List ℕ) (o : Options) (es : List Entry) (b : ℕ) (seed : Option SeedLine) (spent : Option Block) → IsHopEnd c sig o es b seed spent → IsOfHop b spent
-hop_named c sig o es b None spent h = subst (IsOfHop b) (sym h) tt
-hop_named c sig o es b (Some s) None h = tt
-hop_named c sig o es b (Some s) (Some q) h = (h.spent.0, h.spent.1)
+spent_named : (c : Parts) (sig : List ℕ) (o : Options) (es : List Entry) (start : Start) (b : ℕ) (spent : Option Block) → IsSpentStep c sig o es start o.hop (searches.Hop b) spent
+    → All (IsOfHop b) (optional spent)
+spent_named c sig o es start b None told = λ k d l. absurd (omega (arith, l))
+spent_named c sig o es start b (Some q) told = λ k d l. (
+    let first : k ≡ 0 = omega (arith, l) in
+    subst (λ (x : ℕ). IsOfHop b (get_or (q ∷ []) x d)) (sym first) (told.0, told.1)
+    )
 
-hops_from : (n : ℕ) (ends : List BatchEnd) → ((k : ℕ) (end : BatchEnd) → slice_get ends k ≡ Some end → IsOfHop (n + k) end.spent) → AreOfHops n ends
-hops_from n [] h = tt
-hops_from n (x ∷ ends) h = (
-  subst (λ (b : ℕ). IsOfHop b x.spent) (let e : n + 0 ≡ n = omega arith in e) (h 0 x refl),
-  hops_from (n + 1) ends (λ k end e. subst (λ (b : ℕ). IsOfHop b end.spent) (let s : n + suc k ≡ n + 1 + k = omega arith in s) (h (suc k) end e)),
+hop_named : (c : Parts) (sig : List ℕ) (o : Options) (es : List Entry) (b : ℕ) (seed : Option SeedLine) (hop : SearchBlocks) → IsHopEnd c sig o es b seed hop → All (IsOfHop b) (optional hop.spent)
+hop_named c sig o es b None hop h = subst (λ (x : SearchBlocks). All (IsOfHop b) (optional x.spent)) (sym h) (λ k d l. absurd (omega (arith, l)))
+hop_named c sig o es b (Some s) hop h = spent_named c sig o es (State s.state) b hop.spent h.spent
+
+pub hops_from : (of : BatchEnd → List Block) (n : ℕ) (ends : List BatchEnd) → ((k : ℕ) (end : BatchEnd) → slice_get ends k ≡ Some end → All (IsOfHop (n + k)) (of end)) → AreOfHops of n ends
+hops_from of n [] h = tt
+hops_from of n (x ∷ ends) h = (
+  subst (λ (b : ℕ). All (IsOfHop b) (of x)) (let e : n + 0 ≡ n = omega arith in e) (h 0 x refl),
+  hops_from of (n + 1) ends (λ k end e. subst (λ (b : ℕ). All (IsOfHop b) (of end)) (let s : n + suc k ≡ n + 1 + k = omega arith in s) (h (suc k) end e)),
 )
 
-one_section : (n : ℕ) (spent : Option Block) → IsOfHop n spent → All (λ (b : Block). section_of b.name ≡ 1) (optional spent)
-one_section n None of = λ k d l. absurd (omega (arith, l))
-one_section n (Some b) of = λ k d l. (
-    let first : k ≡ 0 = omega (arith, l) in
-    subst (λ (x : ℕ). section_of (get_or (b ∷ []) x d).name ≡ 1) (sym first) (ap section_of of.1)
-    )
-
-hop_sections : (n : ℕ) (ends : List BatchEnd) → AreOfHops n ends → All (λ (b : Block). section_of b.name ≡ 1) (hop_blocks ends)
-hop_sections n [] of = λ k d l. absurd (omega (arith, l))
-hop_sections n (x ∷ ends) of = All-append (λ (b : Block). section_of b.name ≡ 1) (optional x.spent) (hop_blocks ends) (one_section n x.spent of.0) (hop_sections (n + 1) ends of.1)
+pub hop_sections : (of : BatchEnd → List Block) (n : ℕ) (ends : List BatchEnd) → AreOfHops of n ends → All (λ (b : Block). section_of b.name ≡ 1) (flat_map of ends)
+hop_sections of n [] named = λ k d l. absurd (omega (arith, l))
+hop_sections of n (x ∷ ends) named =
+    All-append (λ (b : Block). section_of b.name ≡ 1) (of x) (flat_map of ends) (λ k d l. ap section_of (named.0 k d l).1) (hop_sections of (n + 1) ends named.1)
 
 prover_sections : (c : Parts) (sig : List ℕ) (o : Options) (es : List Entry) (p : ProverEnd) → IsProverEnd c sig o es p → All (λ (b : Block). 2 ≤ section_of b.name) (prover_blocks p)
 prover_sections c sig o es NotRun told = λ k d l. absurd (omega (arith, l))
@@ -118,19 +127,20 @@ prover_sections c sig o es (Spent b) told = λ k d l. (
 prover_sections c sig o es (Whole inv spents) told = λ k d l. omega (arith, ap section_of (told.queries k d l).name)
 
 -- what is known of the names of all queries
-record AreNamed (ends : Ends) : Type 0 where
-  sweep : All (λ (b : Block). section_of b.name ≡ 0) (optional ends.sweep)
-  of_hops : AreOfHops 0 ends.batches
-  hops : All (λ (b : Block). section_of b.name ≡ 1) (hop_blocks ends.batches)
+pub record AreNamed (ends : Ends) : Type 0 where
+  sweep : All (λ (b : Block). section_of b.name ≡ 0) (optional ends.sweep.spent)
+  of_hops : AreOfHops spents_of 0 ends.batches
+  hops : All (λ (b : Block). section_of b.name ≡ 1) (hop_spents ends.batches)
   prover : All (λ (b : Block). 2 ≤ section_of b.name) (prover_blocks ends.prover)
 
-named : (c : Parts) (sig : List ℕ) (o : Options) (es : List Entry) (ends : Ends) → AreTold c sig o es ends → AreNamed ends
+pub named : (c : Parts) (sig : List ℕ) (o : Options) (es : List Entry) (ends : Ends) → AreTold c sig o es ends → AreNamed ends
 named c sig o es ends told =
-    let of : AreOfHops 0 ends.batches = hops_from 0 ends.batches (λ k end e. subst (λ (b : ℕ). IsOfHop b end.spent) (plus_zero k) (hop_named c sig o es k end.seed end.spent (told.batches.each k end e).hop)) in
+    let of : AreOfHops spents_of 0 ends.batches =
+    hops_from spents_of 0 ends.batches (λ k end e. subst (λ (b : ℕ). All (IsOfHop b) (spents_of end)) (plus_zero k) (hop_named c sig o es k end.seed end.hop (told.batches.each k end e).hop)) in
     record {
-      sweep = sweep_named c sig o es ends.sweep told.sweep;
+      sweep = sweep_named c sig o es ends.sweep.spent told.sweep.spent;
       of_hops = of;
-      hops = hop_sections 0 ends.batches of;
+      hops = hop_sections spents_of 0 ends.batches of;
       prover = prover_sections c sig o es ends.prover told.prover;
     }
 
@@ -145,43 +155,43 @@ prover_names c sig o es (Whole inv spents) told = λ k d l. (
     )
 
 -- ---- bounds
-sweep_steps : (ends : Ends) → AreNamed ends → first_step sweep_step (all_spents ends) ≡ first_step sweep_step (optional ends.sweep)
+sweep_steps : (ends : Ends) → AreNamed ends → first_step sweep_step (all_spents ends) ≡ first_step sweep_step (optional ends.sweep.spent)
 sweep_steps ends n =
-    ap first_of (only_first sweep_step (optional ends.sweep) (hop_blocks ends.batches) (prover_blocks ends.prover)
-    (λ k d l. sweep_alone (get_or (hop_blocks ends.batches) k d).name (omega (arith, n.hops k d l)))
+    ap first_of (only_first sweep_step (optional ends.sweep.spent) (hop_spents ends.batches) (prover_blocks ends.prover)
+    (λ k d l. sweep_alone (get_or (hop_spents ends.batches) k d).name (omega (arith, n.hops k d l)))
     (λ k d l. sweep_alone (get_or (prover_blocks ends.prover) k d).name (omega (arith, n.prover k d l))))
 
 hop_steps : (ends : Ends) (b : ℕ) (end : BatchEnd) → AreNamed ends → slice_get ends.batches b ≡ Some end
-    → first_step (hop_step b) (all_spents ends) ≡ first_step (hop_step b) (optional end.spent)
+    → first_step (hop_step b) (all_spents ends) ≡ first_step (hop_step b) (optional end.hop.spent)
 hop_steps ends b end n e =
-    ap first_of (only_second (hop_step b) (optional ends.sweep) (hop_blocks ends.batches) (prover_blocks ends.prover)
-    (λ k d l. hop_alone b (get_or (optional ends.sweep) k d).name (λ one. omega (arith, one, n.sweep k d l)))
+    ap first_of (only_second (hop_step b) (optional ends.sweep.spent) (hop_spents ends.batches) (prover_blocks ends.prover)
+    (λ k d l. hop_alone b (get_or (optional ends.sweep.spent) k d).name (λ one. omega (arith, one, n.sweep k d l)))
     (λ k d l. hop_alone b (get_or (prover_blocks ends.prover) k d).name (λ one. omega (arith, one, n.prover k d l)))
-    ∙ subst (λ (x : ℕ). steps_of (hop_step x) (hop_blocks ends.batches) ≡ steps_of (hop_step x) (optional end.spent)) (sym (plus_zero b)) (own_hop 0 b ends.batches end n.of_hops e))
+    ∙ subst (λ (x : ℕ). steps_of (hop_step x) (hop_spents ends.batches) ≡ steps_of (hop_step x) (optional end.hop.spent)) (sym (plus_zero b)) (own_hop spents_of 0 b ends.batches end n.of_hops e))
 
 proof_steps : (ends : Ends) (g : ℕ) → AreNamed ends → first_step (proof_step g) (all_spents ends) ≡ first_step (proof_step g) (prover_blocks ends.prover)
 proof_steps ends g n =
-    ap first_of (only_third (proof_step g) (optional ends.sweep) (hop_blocks ends.batches) (prover_blocks ends.prover)
-    (λ k d l. proof_alone g (get_or (optional ends.sweep) k d).name (omega (arith, n.sweep k d l)))
-    (λ k d l. proof_alone g (get_or (hop_blocks ends.batches) k d).name (omega (arith, n.hops k d l))))
+    ap first_of (only_third (proof_step g) (optional ends.sweep.spent) (hop_spents ends.batches) (prover_blocks ends.prover)
+    (λ k d l. proof_alone g (get_or (optional ends.sweep.spent) k d).name (omega (arith, n.sweep k d l)))
+    (λ k d l. proof_alone g (get_or (hop_spents ends.batches) k d).name (omega (arith, n.hops k d l))))
 
 bound_same : (o : Options) (xs ys : List Block) (b : ℕ) (seed : Option SeedLine) → first_step (hop_step b) xs ≡ first_step (hop_step b) ys → hop_bound o xs b seed ≡ hop_bound o ys b seed
 bound_same o xs ys b None e = refl
 bound_same o xs ys b (Some s) e = ap (λ (t : Option ℕ). hop_of (whole_up_to o.hop t)) e
 
 hops_same : (o : Options) (spents : List Block) (n : ℕ) (ends : List BatchEnd)
-    → ((k : ℕ) (end : BatchEnd) → slice_get ends k ≡ Some end → first_step (hop_step (n + k)) spents ≡ first_step (hop_step (n + k)) (optional end.spent))
+    → ((k : ℕ) (end : BatchEnd) → slice_get ends k ≡ Some end → first_step (hop_step (n + k)) spents ≡ first_step (hop_step (n + k)) (optional end.hop.spent))
     → map (λ p. hop_bound o spents p.0 p.1) (enumerate_from n (seeds_of ends)) ≡ map (λ p. end_bound o p.0 p.1) (enumerate_from n ends)
 hops_same o spents n [] h = refl
 hops_same o spents n (x ∷ ends) h =
     let head : hop_bound o spents n x.seed ≡ end_bound o n x =
-    bound_same o spents (optional x.spent) n x.seed (subst (λ (b : ℕ). first_step (hop_step b) spents ≡ first_step (hop_step b) (optional x.spent)) (let e : n + 0 ≡ n = omega arith in e) (h 0 x refl)) in
-    let tail = hops_same o spents (n + 1) ends (λ k end e. subst (λ (b : ℕ). first_step (hop_step b) spents ≡ first_step (hop_step b) (optional end.spent)) (let s : n + suc k ≡ n + 1 + k = omega arith in s) (h (suc k) end e)) in
+    bound_same o spents (optional x.hop.spent) n x.seed (subst (λ (b : ℕ). first_step (hop_step b) spents ≡ first_step (hop_step b) (optional x.hop.spent)) (let e : n + 0 ≡ n = omega arith in e) (h 0 x refl)) in
+    let tail = hops_same o spents (n + 1) ends (λ k end e. subst (λ (b : ℕ). first_step (hop_step b) spents ≡ first_step (hop_step b) (optional end.hop.spent)) (let s : n + suc k ≡ n + 1 + k = omega arith in s) (h (suc k) end e)) in
     λ i. head i ∷ tail i
 
 -- the strength that the ends leave
 strength_now : (o : Options) (p : ProverEnd) (g : ℕ) (c : Parts) (sig : List ℕ) (es : List Entry) (cut : Bool) → IsProverEnd c sig o es p → cut ≡ is_some (first_step (proof_step g) (excludes_blocks p))
-    → unless_spent (asked_strength (record { proves = proves p; refutes = false }) o) (first_step (proof_step g) (prover_blocks p)) ≡ cond cut None (strength_after o p)
+    → unless_spent (asked_strength (record { proves = proves p; refutes = true }) o) (first_step (proof_step g) (prover_blocks p)) ≡ cond cut None (strength_after o p)
 strength_now o NotRun g c sig es cut told e = ap (λ (b : Bool). cond b None None) (sym e)
 strength_now o AllSettled g c sig es cut told e = ap (λ (b : Bool). cond b None (Some o.strength)) (sym e)
 strength_now o (Spent b) g c sig es cut told e =
@@ -189,7 +199,7 @@ strength_now o (Spent b) g c sig es cut told e =
 strength_now o (Whole inv spents) g c sig es cut told e =
     unless_is (Some o.strength) (first_step (proof_step g) spents) ∙ ap (λ (b : Bool). cond b None (Some o.strength)) (sym e)
 
-bounds_now : (c : Parts) (sig : List ℕ) (o : Options) (posts : List Post) (ends : Ends) (bounds : OpenBounds) (opens bs : List GoalBlock) (r : Report) (g : ℕ) → g < 2 ^ length sig
+pub bounds_now : (c : Parts) (sig : List ℕ) (o : Options) (posts : List Post) (ends : Ends) (bounds : OpenBounds) (opens bs : List GoalBlock) (r : Report) (g : ℕ) → g < 2 ^ length sig
     → IsComposed c sig o posts ends bounds opens bs r → bounds_of (scope_of ends) r g ≡ record { depth = bounds.depth; hops = bounds.hops; strength = strength_at bounds g }
 bounds_now c sig o posts ends bounds opens bs r g below h =
     let n = named c sig o (entries_of posts) ends h.told in
@@ -201,7 +211,7 @@ bounds_now c sig o posts ends bounds opens bs r g below h =
     let hops : map (λ p. hop_bound r.options r.spents p.0 p.1) (enumerate_from 0 r.seeds) ≡ bounds.hops =
     ap (λ (x : Options). map (λ p. hop_bound x r.spents p.0 p.1) (enumerate_from 0 r.seeds)) h.holds.options
     ∙ (ap (λ (x : List (Option SeedLine)). map (λ p. hop_bound o r.spents p.0 p.1) (enumerate_from 0 x)) seeds
-    ∙ (hops_same o r.spents 0 ends.batches (λ k end e. subst (λ (b : ℕ). first_step (hop_step b) r.spents ≡ first_step (hop_step b) (optional end.spent)) (plus_zero k) (ap (first_step (hop_step k)) spents ∙ hop_steps ends k end n e)) ∙ sym h.bounds_are.hops)) in
+    ∙ (hops_same o r.spents 0 ends.batches (λ k end e. subst (λ (b : ℕ). first_step (hop_step b) r.spents ≡ first_step (hop_step b) (optional end.hop.spent)) (plus_zero k) (ap (first_step (hop_step k)) spents ∙ hop_steps ends k end n e)) ∙ sym h.bounds_are.hops)) in
     let strength : unless_spent (asked_strength (scope_of ends) r.options) (first_step (proof_step g) r.spents) ≡ strength_at bounds g =
     ap (λ (x : Options). unless_spent (asked_strength (scope_of ends) x) (first_step (proof_step g) r.spents)) h.holds.options
     ∙ (ap (λ (x : List Block). unless_spent (asked_strength (scope_of ends) o) (first_step (proof_step g) x)) spents
@@ -216,7 +226,7 @@ end_in [] b inside = absurd (omega (arith, inside))
 end_in (x ∷ ends) zero inside = (x, refl)
 end_in (x ∷ ends) (suc b) inside = end_in ends b (omega (arith, inside))
 
-seed_of_end : (ends : List BatchEnd) (b : ℕ) (end : BatchEnd) → slice_get ends b ≡ Some end → slice_get (seeds_of ends) b ≡ Some end.seed
+pub seed_of_end : (ends : List BatchEnd) (b : ℕ) (end : BatchEnd) → slice_get ends b ≡ Some end → slice_get (seeds_of ends) b ≡ Some end.seed
 seed_of_end ends b end e = slice_get-map (λ (x : BatchEnd). x.seed) ends b ∙ ap (option_map (λ (x : BatchEnd). x.seed)) e
 
 -- each batch has its end
@@ -228,7 +238,7 @@ seed_at [] b line e = absurd cc
 seed_at (x ∷ ends) zero line e = let same : x.seed ≡ line = cc in (x, refl, same)
 seed_at (x ∷ ends) (suc b) line e = seed_at ends b line e
 
-hop_at : (o : Options) (n : ℕ) (ends : List BatchEnd) (b : ℕ) (end : BatchEnd) → slice_get ends b ≡ Some end
+pub hop_at : (o : Options) (n : ℕ) (ends : List BatchEnd) (b : ℕ) (end : BatchEnd) → slice_get ends b ≡ Some end
     → slice_get (map (λ p. end_bound o p.0 p.1) (enumerate_from n ends)) b ≡ Some (end_bound o (n + b) end)
 hop_at o n [] b end e = absurd cc
 hop_at o n (x ∷ ends) zero end e =
@@ -240,12 +250,12 @@ hop_is_to : (t : Option ℕ) (h : ℕ) → hop_of t ≡ hop_bounds.To h → t �
 hop_is_to None h e = absurd cc
 hop_is_to (Some t) h e = let same : t ≡ h = cc in ap (λ (x : ℕ). Some x) same
 
-by_the_hop : (c : Parts) (sig : List ℕ) (o : Options) (es : List Entry) (b h t goal : ℕ) (own : Option SeedLine) (seed : SeedLine) (spent : Option Block) → own ≡ Some seed → IsHopEnd c sig o es b own spent
-    → hop_bound o (optional spent) b own ≡ hop_bounds.To h → t ≤ h → At c sig seed.state t goal → HasEntry es goal
-by_the_hop c sig o es b h t goal None seed spent same end e near at = absurd (none-some seed same)
-by_the_hop c sig o es b h t goal (Some own) seed spent same end e near at =
+by_the_hop : (c : Parts) (sig : List ℕ) (o : Options) (es : List Entry) (b h t goal : ℕ) (own : Option SeedLine) (seed : SeedLine) (hop : SearchBlocks) → own ≡ Some seed → IsHopEnd c sig o es b own hop
+    → hop_bound o (optional hop.spent) b own ≡ hop_bounds.To h → t ≤ h → At c sig seed.state t goal → HasEntry es goal
+by_the_hop c sig o es b h t goal None seed hop same end e near at = absurd (none-some seed same)
+by_the_hop c sig o es b h t goal (Some own) seed hop same end e near at =
     let is : own ≡ seed = cc in
-    end.settles h t goal (hop_is_to (whole_up_to o.hop (first_step (hop_step b) (optional spent))) h e) near (subst (λ (x : SeedLine). At c sig x.state t goal) (sym is) at)
+    end.settles h t goal (hop_is_to (last_whole o.hop (searches.Hop b) hop) h e) near (subst (λ (x : SeedLine). At c sig x.state t goal) (sym is) at)
 
 -- clauses with the same members are satisfied alike
 same_satisfied : (state : List Bool) (xs ys : List (List ℤ)) → ((clause : List ℤ) → Contains ys clause → Contains xs clause) → SatisfiesClauses state xs → SatisfiesClauses state ys
@@ -293,7 +303,7 @@ not_asked c sig o posts ends bounds opens bs r g below h none (by_walk b found) 
     let end = end_at c sig o (entries_of posts) ends.batches b h.told.batches walked.inside in
     none ((h.told.batches.each b end.0 end.1).visited g walked)
 not_asked c sig o posts ends bounds opens bs r g below h none (by_sweep d e w) =
-    let at : whole_up_to o.depth (first_step sweep_step (optional ends.sweep)) ≡ Some d =
+    let at : whole_up_to o.depth (first_step sweep_step (optional ends.sweep.spent)) ≡ Some d =
     sym h.bounds_are.depth ∙ (sym (ap (λ (b : Bounds). b.depth) (bounds_now c sig o posts ends bounds opens bs r g below h)) ∙ e) in
     none (h.told.sweep.settles d g at w)
 not_asked c sig o posts ends bounds opens bs r g below h none (by_hop b n t seed at e near w) =
@@ -301,7 +311,7 @@ not_asked c sig o posts ends bounds opens bs r g below h none (by_hop b n t seed
     let hops : (bounds_of (scope_of ends) r g).hops ≡ hops_of o ends.batches = ap (λ (x : Bounds). x.hops) (bounds_now c sig o posts ends bounds opens bs r g below h) ∙ h.bounds_are.hops in
     let bound : end_bound o b end.0 ≡ hop_bounds.To n =
     same_Some (end_bound o b end.0) (hop_bounds.To n) (sym (subst (λ (x : ℕ). slice_get (hops_of o ends.batches) b ≡ Some (end_bound o x end.0)) (sym (plus_zero b)) (hop_at o 0 ends.batches b end.0 end.1)) ∙ (sym (ap (λ (xs : List HopBound). slice_get xs b) hops) ∙ e)) in
-    none (by_the_hop c sig o (entries_of posts) b n t g end.0.seed seed end.0.spent end.2 (h.told.batches.each b end.0 end.1).hop bound near w)
+    none (by_the_hop c sig o (entries_of posts) b n t g end.0.seed seed end.0.hop end.2 (h.told.batches.each b end.0 end.1).hop bound near w)
 not_asked c sig o posts ends bounds opens bs r g below h none (by_proof s e found) =
     let strength : strength_at bounds g ≡ Some s = sym (ap (λ (x : Bounds). x.strength) (bounds_now c sig o posts ends bounds opens bs r g below h)) ∙ e in
     none (by_the_prover c sig o (entries_of posts) ends.prover g s (get_or bounds.cut g false) h.told.prover below (h.bounds_are.cut g (omega (arith, below, h.bounds_are.size)))
@@ -310,45 +320,35 @@ not_asked c sig o posts ends bounds opens bs r g below h none (by_proof s e foun
 
 -- ---- the order of the queries
 -- what holds of each holds of one that is there
-contained : (P : Block → Type 0) (bs : List Block) (b : Block) → All P bs → Contains bs b → P b
+pub contained : (P : Block → Type 0) (bs : List Block) (b : Block) → All P bs → Contains bs b → P b
 contained P bs b all has = subst P has.2 (all has.0 b has.1)
 
-one_item : (n : ℕ) (spent : Option Block) → IsOfHop n spent → All (λ (b : Block). n ≤ item_of b.name) (optional spent)
-one_item n None of = λ k d l. absurd (omega (arith, l))
-one_item n (Some b) of = λ k d l. (
-    let first : k ≡ 0 = omega (arith, l) in
-    subst (λ (x : ℕ). n ≤ item_of (get_or (b ∷ []) x d).name) (sym first) (omega (arith, ap item_of of.1))
-    )
-
 -- the item of each hop's query is its batch
-hops_rise : (n : ℕ) (ends : List BatchEnd) → AreOfHops n ends → All (λ (b : Block). n ≤ item_of b.name) (hop_blocks ends)
-hops_rise n [] of = λ k d l. absurd (omega (arith, l))
-hops_rise n (x ∷ ends) of =
-    All-append (λ (b : Block). n ≤ item_of b.name) (optional x.spent) (hop_blocks ends) (one_item n x.spent of.0)
-    (λ k d l. omega (arith, hops_rise (n + 1) ends of.1 k d l))
+hops_rise : (of : BatchEnd → List Block) (n : ℕ) (ends : List BatchEnd) → AreOfHops of n ends → All (λ (b : Block). n ≤ item_of b.name) (flat_map of ends)
+hops_rise of n [] named = λ k d l. absurd (omega (arith, l))
+hops_rise of n (x ∷ ends) named =
+    All-append (λ (b : Block). n ≤ item_of b.name) (of x) (flat_map of ends) (λ k d l. omega (arith, ap item_of (named.0 k d l).1))
+    (λ k d l. omega (arith, hops_rise of (n + 1) ends named.1 k d l))
 
-hop_before : (n : ℕ) (ends : List BatchEnd) (spent : Option Block) (a b : Block) → IsOfHop n spent → AreOfHops (n + 1) ends → Contains (optional spent) a → Contains (hop_blocks ends) b → ComesBefore a b
-hop_before n ends None a b of more ha hb = absurd (omega (arith, ha.1))
-hop_before n ends (Some q) a b of more ha hb =
-    let name : item_of a.name ≡ n = contained (λ (x : Block). item_of x.name ≡ n) (q ∷ []) a (λ k d l. (
-    let first : k ≡ 0 = omega (arith, l) in
-    subst (λ (x : ℕ). item_of (get_or (q ∷ []) x d).name ≡ n) (sym first) (ap item_of of.1)
-    )) ha in
+pub hop_before : (of : BatchEnd → List Block) (n : ℕ) (ends : List BatchEnd) (bs : List Block) (a b : Block) → All (IsOfHop n) bs → AreOfHops of (n + 1) ends → Contains bs a
+    → Contains (flat_map of ends) b → ComesBefore a b
+hop_before of n ends bs a b own more ha hb =
+    let name : item_of a.name ≡ n = contained (λ (x : Block). item_of x.name ≡ n) bs a (λ k d l. ap item_of (own k d l).1) ha in
     inr (
-      contained (λ (x : Block). section_of x.name ≡ 1) (optional (Some q)) a (one_section n (Some q) of) ha
-          ∙ sym (contained (λ (x : Block). section_of x.name ≡ 1) (hop_blocks ends) b (hop_sections (n + 1) ends more) hb),
-      omega (arith, name, contained (λ (x : Block). n + 1 ≤ item_of x.name) (hop_blocks ends) b (hops_rise (n + 1) ends more) hb),
+      contained (λ (x : Block). section_of x.name ≡ 1) bs a (λ k d l. ap section_of (own k d l).1) ha
+          ∙ sym (contained (λ (x : Block). section_of x.name ≡ 1) (flat_map of ends) b (hop_sections of (n + 1) ends more) hb),
+      omega (arith, name, contained (λ (x : Block). n + 1 ≤ item_of x.name) (flat_map of ends) b (hops_rise of (n + 1) ends more) hb),
     )
 
 optional_pairs : (spent : Option Block) → AllPairs ComesBefore (optional spent)
 optional_pairs None = λ i j d l m. absurd (omega (arith, m))
 optional_pairs (Some b) = λ i j d l m. absurd (omega (arith, l, m))
 
-hops_ordered : (n : ℕ) (ends : List BatchEnd) → AreOfHops n ends → AllPairs ComesBefore (hop_blocks ends)
-hops_ordered n [] of = λ i j d l m. absurd (omega (arith, m))
-hops_ordered n (x ∷ ends) of =
-    pairs_append ComesBefore (optional x.spent) (hop_blocks ends) (optional_pairs x.spent) (hops_ordered (n + 1) ends of.1)
-    (λ a b ha hb. hop_before n ends x.spent a b of.0 of.1 ha hb)
+hops_ordered : (n : ℕ) (ends : List BatchEnd) → AreOfHops spents_of n ends → AllPairs ComesBefore (hop_spents ends)
+hops_ordered n [] named = λ i j d l m. absurd (omega (arith, m))
+hops_ordered n (x ∷ ends) named =
+    pairs_append ComesBefore (optional x.hop.spent) (hop_spents ends) (optional_pairs x.hop.spent) (hops_ordered (n + 1) ends named.1)
+    (λ a b ha hb. hop_before spents_of n ends (spents_of x) a b named.0 named.1 ha hb)
 
 prover_ordered : (c : Parts) (sig : List ℕ) (o : Options) (es : List Entry) (p : ProverEnd) → IsProverEnd c sig o es p → AllPairs ComesBefore (prover_blocks p)
 prover_ordered c sig o es NotRun told = λ i j d l m. absurd (omega (arith, m))
@@ -359,48 +359,50 @@ prover_ordered c sig o es (Whole inv spents) told = λ i j d l m.
 
 spents_ordered : (c : Parts) (sig : List ℕ) (o : Options) (es : List Entry) (ends : Ends) → AreTold c sig o es ends → AreNamed ends → AllPairs ComesBefore (all_spents ends)
 spents_ordered c sig o es ends told n =
-    pairs_append ComesBefore (optional ends.sweep ++ hop_blocks ends.batches) (prover_blocks ends.prover)
-    (pairs_append ComesBefore (optional ends.sweep) (hop_blocks ends.batches) (optional_pairs ends.sweep) (hops_ordered 0 ends.batches n.of_hops)
-    (λ a b ha hb. inl (omega (arith, contained (λ (x : Block). section_of x.name ≡ 0) (optional ends.sweep) a n.sweep ha, contained (λ (x : Block). section_of x.name ≡ 1) (hop_blocks ends.batches) b n.hops hb))))
+    pairs_append ComesBefore (optional ends.sweep.spent ++ hop_spents ends.batches) (prover_blocks ends.prover)
+    (pairs_append ComesBefore (optional ends.sweep.spent) (hop_spents ends.batches) (optional_pairs ends.sweep.spent) (hops_ordered 0 ends.batches n.of_hops)
+    (λ a b ha hb. inl (omega (arith, contained (λ (x : Block). section_of x.name ≡ 0) (optional ends.sweep.spent) a n.sweep ha, contained (λ (x : Block). section_of x.name ≡ 1) (hop_spents ends.batches) b n.hops hb))))
     (prover_ordered c sig o es ends.prover told.prover)
     (λ a b ha hb. inl (omega (
       arith,
-      contained (λ (x : Block). section_of x.name < 2) (optional ends.sweep ++ hop_blocks ends.batches) a
-          (All-append (λ (x : Block). section_of x.name < 2) (optional ends.sweep) (hop_blocks ends.batches) (λ k d l. omega (arith, n.sweep k d l)) (λ k d l. omega (arith, n.hops k d l))) ha,
+      contained (λ (x : Block). section_of x.name < 2) (optional ends.sweep.spent ++ hop_spents ends.batches) a
+          (All-append (λ (x : Block). section_of x.name < 2) (optional ends.sweep.spent) (hop_spents ends.batches) (λ k d l. omega (arith, n.sweep k d l)) (λ k d l. omega (arith, n.hops k d l))) ha,
       contained (λ (x : Block). 2 ≤ section_of x.name) (prover_blocks ends.prover) b n.prover hb,
     )))
 
 -- ---- each query
-sweep_query : (c : Parts) (sig : List ℕ) (o : Options) (es : List Entry) (seeds : List (Option SeedLine)) (spent : Option Block) → IsSweepEnd c sig o es spent
+sweep_query : (c : Parts) (sig : List ℕ) (o : Options) (es : List Entry) (seeds : List (Option SeedLine)) (spent : Option Block) → IsSpentStep c sig o es Reset o.depth searches.Sweep spent
     → All (λ (b : Block). IsSpentQuery c sig o es seeds b.name b) (optional spent)
 sweep_query c sig o es seeds None told = λ k d l. absurd (omega (arith, l))
 sweep_query c sig o es seeds (Some b) told = λ k d l. (
-    let search = told.spent in
     let first : k ≡ 0 = omega (arith, l) in
     subst (λ (x : ℕ). IsSpentQuery c sig o es seeds (get_or (b ∷ []) x d).name (get_or (b ∷ []) x d)) (sym first)
-    (subst (λ name. IsSpentQuery c sig o es seeds name b) (sym search.1) search.2)
+    (subst (λ name. IsSpentQuery c sig o es seeds name b) (sym told.1) told.2)
     )
 
-hop_query : (c : Parts) (sig : List ℕ) (o : Options) (es : List Entry) (seeds : List (Option SeedLine)) (n : ℕ) (seed : Option SeedLine) (spent : Option Block) → slice_get seeds n ≡ Some seed
-    → IsHopEnd c sig o es n seed spent → All (λ (b : Block). IsSpentQuery c sig o es seeds b.name b) (optional spent)
-hop_query c sig o es seeds n seed None place end = λ k d l. absurd (omega (arith, l))
-hop_query c sig o es seeds n None (Some b) place end = absurd (none-some b (sym end))
-hop_query c sig o es seeds n (Some s) (Some b) place end = λ k d l. (
-    let search = end.spent in
+spent_query : (c : Parts) (sig : List ℕ) (o : Options) (es : List Entry) (seeds : List (Option SeedLine)) (n : ℕ) (s : SeedLine) (spent : Option Block) → slice_get seeds n ≡ Some (Some s)
+    → IsSpentStep c sig o es (State s.state) o.hop (searches.Hop n) spent → All (λ (b : Block). IsSpentQuery c sig o es seeds b.name b) (optional spent)
+spent_query c sig o es seeds n s None place told = λ k d l. absurd (omega (arith, l))
+spent_query c sig o es seeds n s (Some b) place told = λ k d l. (
     let first : k ≡ 0 = omega (arith, l) in
     subst (λ (x : ℕ). IsSpentQuery c sig o es seeds (get_or (b ∷ []) x d).name (get_or (b ∷ []) x d)) (sym first)
-    (subst (λ name. IsSpentQuery c sig o es seeds name b) (sym search.1) (record { seed = s; place = place; search = search.2 }))
+    (subst (λ name. IsSpentQuery c sig o es seeds name b) (sym told.1) (record { seed = s; place = place; search = told.2 }))
     )
+
+hop_query : (c : Parts) (sig : List ℕ) (o : Options) (es : List Entry) (seeds : List (Option SeedLine)) (n : ℕ) (seed : Option SeedLine) (hop : SearchBlocks) → slice_get seeds n ≡ Some seed
+    → IsHopEnd c sig o es n seed hop → All (λ (b : Block). IsSpentQuery c sig o es seeds b.name b) (optional hop.spent)
+hop_query c sig o es seeds n None hop place end = subst (λ (x : SearchBlocks). All (λ (b : Block). IsSpentQuery c sig o es seeds b.name b) (optional x.spent)) (sym end) (λ k d l. absurd (omega (arith, l)))
+hop_query c sig o es seeds n (Some s) hop place end = spent_query c sig o es seeds n s hop.spent place end.spent
 
 hop_queries : (c : Parts) (sig : List ℕ) (o : Options) (es : List Entry) (seeds : List (Option SeedLine)) (n : ℕ) (ends : List BatchEnd)
-    → ((k : ℕ) (end : BatchEnd) → slice_get ends k ≡ Some end → (slice_get seeds (n + k) ≡ Some end.seed) × IsHopEnd c sig o es (n + k) end.seed end.spent)
-    → All (λ (b : Block). IsSpentQuery c sig o es seeds b.name b) (hop_blocks ends)
+    → ((k : ℕ) (end : BatchEnd) → slice_get ends k ≡ Some end → (slice_get seeds (n + k) ≡ Some end.seed) × IsHopEnd c sig o es (n + k) end.seed end.hop)
+    → All (λ (b : Block). IsSpentQuery c sig o es seeds b.name b) (hop_spents ends)
 hop_queries c sig o es seeds n [] h = λ k d l. absurd (omega (arith, l))
 hop_queries c sig o es seeds n (x ∷ ends) h =
     let own = h 0 x refl in
-    All-append (λ (b : Block). IsSpentQuery c sig o es seeds b.name b) (optional x.spent) (hop_blocks ends)
-    (hop_query c sig o es seeds (n + 0) x.seed x.spent own.0 own.1)
-    (hop_queries c sig o es seeds (n + 1) ends (λ k end e. subst (λ (b : ℕ). (slice_get seeds b ≡ Some end.seed) × IsHopEnd c sig o es b end.seed end.spent)
+    All-append (λ (b : Block). IsSpentQuery c sig o es seeds b.name b) (optional x.hop.spent) (hop_spents ends)
+    (hop_query c sig o es seeds (n + 0) x.seed x.hop own.0 own.1)
+    (hop_queries c sig o es seeds (n + 1) ends (λ k end e. subst (λ (b : ℕ). (slice_get seeds b ≡ Some end.seed) × IsHopEnd c sig o es b end.seed end.hop)
     (let s : n + suc k ≡ n + 1 + k = omega arith in s) (h (suc k) end e)))
 
 prover_queries : (c : Parts) (sig : List ℕ) (o : Options) (es : List Entry) (seeds : List (Option SeedLine)) (p : ProverEnd) → IsProverEnd c sig o es p
@@ -423,9 +425,9 @@ spents_tell c sig o es ends told =
     let P : Block → Type 0 = λ (b : Block). IsSpentQuery c sig o es seeds b.name b in
     record {
       ordered = spents_ordered c sig o es ends told (named c sig o es ends told);
-      each = All-append P (optional ends.sweep ++ hop_blocks ends.batches) (prover_blocks ends.prover)
-          (All-append P (optional ends.sweep) (hop_blocks ends.batches) (sweep_query c sig o es seeds ends.sweep told.sweep)
-          (hop_queries c sig o es seeds 0 ends.batches (λ k end e. subst (λ (b : ℕ). (slice_get seeds b ≡ Some end.seed) × IsHopEnd c sig o es b end.seed end.spent) (plus_zero k)
+      each = All-append P (optional ends.sweep.spent ++ hop_spents ends.batches) (prover_blocks ends.prover)
+          (All-append P (optional ends.sweep.spent) (hop_spents ends.batches) (sweep_query c sig o es seeds ends.sweep.spent told.sweep.spent)
+          (hop_queries c sig o es seeds 0 ends.batches (λ k end e. subst (λ (b : ℕ). (slice_get seeds b ≡ Some end.seed) × IsHopEnd c sig o es b end.seed end.hop) (plus_zero k)
           (seed_of_end ends.batches k end e, (told.batches.each k end e).hop))))
           (prover_queries c sig o es seeds ends.prover told.prover);
     }
@@ -487,7 +489,7 @@ block_tells c sig o posts ends bounds opens bs r g (Some p) h below e some =
     (subst (λ k. IsFirst r.history g k p.entry.number) post.kind (first_is posts r.history g p h.holds.history e))
     (subst (λ (x : ℕ). IsBasis c sig (inv_of ends.prover) x p.basis) placed.goal_of post.basis)
 
-goals_tell : (c : Parts) (sig : List ℕ) (o : Options) (posts : List Post) (ends : Ends) (bounds : OpenBounds) (opens bs : List GoalBlock) (r : Report) (g : ℕ) (b : GoalBlock)
+pub goals_tell : (c : Parts) (sig : List ℕ) (o : Options) (posts : List Post) (ends : Ends) (bounds : OpenBounds) (opens bs : List GoalBlock) (r : Report) (g : ℕ) (b : GoalBlock)
     → IsComposed c sig o posts ends bounds opens bs r → slice_get bs g ≡ Some b → IsBlock c sig (scope_of ends) r g b
 goals_tell c sig o posts ends bounds opens bs r g b h e =
     let is = block_is c sig o posts ends bounds opens bs r g b h e in
@@ -496,14 +498,14 @@ goals_tell c sig o posts ends bounds opens bs r g b h e =
     (λ un. some_unreachable bs g b e (ap is_unreachable (sym is) ∙ un)))
 
 -- the clauses, where a goal is unreachable
-invs_tell : (c : Parts) (sig : List ℕ) (o : Options) (es : List Entry) (p : ProverEnd) (n : ℕ) → IsProverEnd c sig o es p → (0 < n → IsSome (inv_of p)) → AreInvs c sig o.strength n (invs_from n (inv_of p))
+pub invs_tell : (c : Parts) (sig : List ℕ) (o : Options) (es : List Entry) (p : ProverEnd) (n : ℕ) → IsProverEnd c sig o es p → (0 < n → IsSome (inv_of p)) → AreInvs c sig o.strength n (invs_from n (inv_of p))
 invs_tell c sig o es p zero told some = refl
 invs_tell c sig o es NotRun (suc n) told some = absurd (false≢true (some (omega arith)))
 invs_tell c sig o es AllSettled (suc n) told some = absurd (false≢true (some (omega arith)))
 invs_tell c sig o es (Spent b) (suc n) told some = absurd (false≢true (some (omega arith)))
 invs_tell c sig o es (Whole inv spents) (suc n) told some = (inv, refl, told.inv_is)
 
-has_clauses : (c : Parts) (sig : List ℕ) (scope : Scope) (r : Report) (g : ℕ) (b : GoalBlock) (n : ℕ) (inv : Option Inv) → r.invs ≡ invs_from n inv → IsBlock c sig scope r g b → is_unreachable b ≡ true → IsSome inv
+pub has_clauses : (c : Parts) (sig : List ℕ) (scope : Scope) (r : Report) (g : ℕ) (b : GoalBlock) (n : ℕ) (inv : Option Inv) → r.invs ≡ invs_from n inv → IsBlock c sig scope r g b → is_unreachable b ≡ true → IsSome inv
 has_clauses c sig scope r g (blocks.Reached m w) n inv is h e = absurd (false≢true e)
 has_clauses c sig scope r g (blocks.Unreachable m i p) n (Some inv) is h e = refl
 has_clauses c sig scope r g (blocks.Unreachable m i p) n None is h e =
@@ -520,40 +522,10 @@ seeds_tell c sig o es ends told = record {
 }
 
 -- each entry is found
-entries_found : (c : Parts) (sig : List ℕ) (o : Options) (inv : Option Inv) (posts : List Post) → IsHistory c sig o inv posts → All (λ (e : Entry). Found c sig o e.source e.goal) (entries_of posts)
+pub entries_found : (c : Parts) (sig : List ℕ) (o : Options) (inv : Option Inv) (posts : List Post) → IsHistory c sig o inv posts → All (λ (e : Entry). Found c sig o e.source e.goal) (entries_of posts)
 entries_found c sig o inv posts history = λ k d l. (
     let entry = entry_at posts k (get_or (entries_of posts) k d) (slice_get-get_or (entries_of posts) k d l) in
     let post : IsPost c sig o inv entry.post =
     subst (IsPost c sig o inv) (get_or_from_slice_get posts k entry.post entry.post entry.at_place) (history.each k entry.post (slice_get_within posts k entry.post entry.at_place)) in
     subst (λ (e : Entry). Found c sig o e.source e.goal) (sym entry.is) post.found
     )
-
--- ---- the whole
-pub report_tells : (c : Parts) (sig : List ℕ) (o : Options) (posts : List Post) (ends : Ends) (bounds : OpenBounds) (opens bs : List GoalBlock) (r : Report)
-    → IsComposed c sig o posts ends bounds opens bs r → Tells c sig o (scope_of ends) r
-report_tells c sig o posts ends bounds opens bs r h =
-    let seeds : r.seeds ≡ seeds_of ends.batches = h.holds.seeds ∙ h.seeds_are in
-    let invs : r.invs ≡ invs_from (count_by is_unreachable bs) (inv_of ends.prover) = h.holds.invs ∙ h.invs_are in
-    let spents : r.spents ≡ all_spents ends = h.holds.spents ∙ h.spents_are in
-    let clauses : 0 < count_by is_unreachable bs → IsSome (inv_of ends.prover) = λ some. (
-    let one = unreachable_place bs some in
-    has_clauses c sig (scope_of ends) r one.0 one.1 (count_by is_unreachable bs) (inv_of ends.prover) invs (goals_tell c sig o posts ends bounds opens bs r one.0 one.1 h one.2) one.3
-    ) in
-    record {
-      inputs = h.holds.inputs;
-      latches = h.holds.latches;
-      signals = h.holds.signals;
-      options = h.holds.options;
-      legal = rw h.holds.history h.history.legal;
-      ordered = rw h.holds.history h.history.ordered;
-      found = rw h.holds.history (entries_found c sig o (inv_of ends.prover) posts h.history);
-      each_goal = ap length h.holds.goals ∙ (h.after.size ∙ h.opened.size);
-      goals = λ g b e. goals_tell c sig o posts ends bounds opens bs r g b h (ap (λ (xs : List GoalBlock). slice_get xs g) (sym h.holds.goals) ∙ e);
-      seeds = rw seeds (seeds_tell c sig o (entries_of posts) ends.batches h.told.batches);
-      invs = rw (h.holds.unreachable, invs) (invs_tell c sig o (entries_of posts) ends.prover (count_by is_unreachable bs) h.told.prover clauses);
-      spents = rw (h.holds.history, seeds, spents) (spents_tell c sig o (entries_of posts) ends h.told);
-      refutes = h.holds.refutes;
-      reached = h.holds.reached ∙ ap (count_by is_reached) (sym h.holds.goals);
-      unreachable = h.holds.unreachable ∙ ap (count_by is_unreachable) (sym h.holds.goals);
-      unsettled = h.holds.unsettled ∙ ap (count_by is_open) (sym h.holds.goals);
-    }

@@ -19,7 +19,7 @@ use Rattle.sweep_search.specs.Sweep.{IsMarked}
 use Rattle.run_report.specs.declared.posts.Basis.TheVariants.{Witness}
 use Rattle.run_report.specs.declared.posts.Finding.{Finding}
 use Rattle.run_report.specs.Batches.{IsFoundBy, AddsVisits, AreBatchVisits, AreKnown}
-use Rattle.run_report.specs.Found.{IsWalkVisited}
+use Rattle.goal_facts.specs.Found.{IsWalkVisited}
 use Rattle.run_report.specs.Run.{goals_of}
 use Rattle.run_report.specs.VisitsAdded.{AddsVisit}
 

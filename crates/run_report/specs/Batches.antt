@@ -6,8 +6,6 @@ use Rattle.aig_model.specs.declared.trace.Trace.{Trace}
 use Rattle.board_core.specs.declared.entry.Entry.{Entry}
 use Rattle.board_core.specs.declared.entry.Source.{Source}
 use Rattle.board_core.specs.declared.entry.Source.TheVariants.{Walk, Hop}
-use Rattle.report_text.specs.declared.report.BlockName.TheVariants as names
-use Rattle.report_text.specs.declared.report.Block.{Block}
 use Rattle.report_text.specs.declared.report.Inv.{Inv}
 use Rattle.report_text.specs.declared.report.SeedLine.{SeedLine}
 use Rattle.sim_batch.specs.Batch.{lanes_of}
@@ -18,12 +16,12 @@ use Rattle.sim_walk.specs.declared.options.Options.{Options}
 use Rattle.sim_walk.specs.declared.visit.Visit.{Visit}
 use Rattle.sweep_search.specs.Sweep.{IsMarked}
 use Rattle.sweep_search.specs.declared.swept.FoundGoal.{FoundGoal}
-use Rattle.sweep_search.specs.declared.swept.SpentQuery.{SpentQuery}
 use Rattle.run_report.specs.declared.ends.BatchEnd.{BatchEnd}
+use Rattle.run_report.specs.declared.ends.SearchBlocks.{SearchBlocks}
 use Rattle.run_report.specs.declared.posts.Basis.TheVariants.{Witness}
 use Rattle.run_report.specs.declared.posts.Finding.{Finding}
 use Rattle.run_report.specs.Ends.{AreBatchEnds, IsBatchEnd, IsHopEnd, IsHopEndFrom}
-use Rattle.run_report.specs.Found.{Found, IsWalkVisited}
+use Rattle.goal_facts.specs.Found.{Found, IsWalkVisited}
 use Rattle.run_report.specs.Lines.{HasShortBasis}
 use Rattle.run_report.specs.Posts.{HasEntry, IsHistory, posts_of}
 use Rattle.run_report.specs.Run.{goals_of}
@@ -80,18 +78,15 @@ hop_finding batch seed f = record {
   basis = Witness (record { start = seed.start; rows = record { width = seed.rows.width; rows = seed.rows.rows ++ f.trace.rows.rows } });
 }
 
-abbrev pub hop_block : ℕ → SpentQuery → Block
-hop_block batch q = record { name = names.Hop batch q.step; blocked = q.blocked; proof = q.proof }
-
-pub record AddsHop (c : Parts) (sig : List ℕ) (o : Options) (batch : ℕ) (seed : SeedState) (old new : List Finding) (spent : Option Block) : Type 0 where
+pub record AddsHop (c : Parts) (sig : List ℕ) (o : Options) (batch : ℕ) (seed : SeedState) (old new : List Finding) (blocks : SearchBlocks) : Type 0 where
   pub adds : Adds c sig o (Hop batch) old new
-  pub end : (es : List Entry) → HaveEntries new es → IsHopEndFrom c sig o es batch (line_of seed) spent
+  pub end : (es : List Entry) → HaveEntries new es → IsHopEndFrom c sig o es batch (line_of seed) blocks
 
 -- the hop of a batch that has this seed, or none
 pub record AddsHopEnd (c : Parts) (sig : List ℕ) (o : Options) (batch : ℕ) (seed : Option SeedState) (old new : List Finding) (end : BatchEnd) : Type 0 where
   pub adds : Adds c sig o (Hop batch) old new
   pub seed_is : seed_of_line c end.seed ≡ seed
-  pub end_is : (es : List Entry) → HaveEntries new es → IsHopEnd c sig o es batch end.seed end.spent
+  pub end_is : (es : List Entry) → HaveEntries new es → IsHopEnd c sig o es batch end.seed end.hop
 
 -- ---- both
 -- The walk, and then the hop for what is left. How the batch ends is told by any history in which all that was found has entries.

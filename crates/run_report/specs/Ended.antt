@@ -17,8 +17,17 @@ use Rattle.run_report.specs.Bounds.{sweep_step, proof_step, first_step, whole_up
 use Rattle.run_report.specs.Ends.{optional}
 
 -- ---- queries
-abbrev pub hop_blocks : List BatchEnd → List Block
-hop_blocks ends = flat_map (λ (end : BatchEnd). optional end.spent) ends
+abbrev pub spents_of : BatchEnd → List Block
+spents_of end = optional end.hop.spent
+
+abbrev pub refutes_of : BatchEnd → List Block
+refutes_of end = end.hop.refuted
+
+abbrev pub hop_spents : List BatchEnd → List Block
+hop_spents ends = flat_map spents_of ends
+
+abbrev pub hop_refutes : List BatchEnd → List Block
+hop_refutes ends = flat_map refutes_of ends
 
 abbrev pub prover_blocks : ProverEnd → List Block
 prover_blocks NotRun = []
@@ -27,11 +36,14 @@ prover_blocks (Spent b) = b ∷ []
 prover_blocks (Whole inv spents) = spents
 
 abbrev pub all_spents : Ends → List Block
-all_spents ends = optional ends.sweep ++ hop_blocks ends.batches ++ prover_blocks ends.prover
+all_spents ends = optional ends.sweep.spent ++ hop_spents ends.batches ++ prover_blocks ends.prover
+
+abbrev pub all_refutes : Ends → List Block
+all_refutes ends = ends.sweep.refuted ++ hop_refutes ends.batches
 
 -- ---- bounds
 abbrev pub end_bound : Options → ℕ → BatchEnd → HopBound
-end_bound o batch end = hop_bound o (optional end.spent) batch end.seed
+end_bound o batch end = hop_bound o (optional end.hop.spent) batch end.seed
 
 abbrev pub hops_of : Options → List BatchEnd → List HopBound
 hops_of o ends = map (λ p. end_bound o p.0 p.1) (enumerate_from 0 ends)
@@ -61,7 +73,7 @@ abbrev pub AreCut : List Block → List Bool → Type 0
 AreCut spents cut = (goal : ℕ) → goal < length cut → get_or cut goal false ≡ is_some (first_step (proof_step goal) spents)
 
 pub record AreBounds (o : Options) (goals : ℕ) (ends : Ends) (b : OpenBounds) : Type 0 where
-  pub depth : b.depth ≡ whole_up_to o.depth (first_step sweep_step (optional ends.sweep))
+  pub depth : b.depth ≡ whole_up_to o.depth (first_step sweep_step (optional ends.sweep.spent))
   pub hops : b.hops ≡ hops_of o ends.batches
   pub strength : b.strength ≡ strength_after o ends.prover
   pub size : length b.cut ≡ goals

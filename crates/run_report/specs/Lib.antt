@@ -3,7 +3,6 @@ pub mod Blocks
 pub mod Bounds
 pub mod Ended
 pub mod Ends
-pub mod Found
 pub mod Invariants
 pub mod Laws
 pub mod Lines
@@ -15,6 +14,7 @@ pub mod Refutes
 pub mod Report
 pub mod Run
 pub mod Scope
+pub mod Searches
 pub mod Seeds
 pub mod Summed
 pub mod VisitsAdded

@@ -4,6 +4,7 @@ use Rattle.lrat_text.specs.Text.{HasProofLiterals}
 use Rattle.lrat_text.specs.declared.proof.LratStep.{LratStep}
 use Rattle.report_text.specs.declared.report.Block.{Block}
 use Rattle.run_report.specs.declared.ends.BatchEnd.{BatchEnd}
+use Rattle.run_report.specs.declared.ends.SearchBlocks.{SearchBlocks}
 use Rattle.run_report.specs.declared.ends.ProverEnd.{ProverEnd}
 use Rattle.run_report.specs.declared.ends.ProverEnd.TheVariants.{NotRun, AllSettled, Spent, Whole}
 use Rattle.run_report.specs.declared.ends.Ends.{Ends}
@@ -26,7 +27,7 @@ HasShortKept AllSettled = Unit {0}
 HasShortKept (Spent b) = Unit {0}
 HasShortKept (Whole inv spents) = All IsShort inv.kept
 
--- a spent query's proof has as many steps as the options say, so only the others need to be short
+-- the proofs of a search's queries have no more steps than the options say, so only the others need to be short
 pub record AreShort (posts : List Post) (prover : ProverEnd) : Type 0 where
   pub bases : All (λ (p : Post). HasShortBasis p.basis) posts
   pub kept : HasShortKept prover
@@ -46,7 +47,11 @@ HasProverLiterals AllSettled = Unit {0}
 HasProverLiterals (Spent b) = HasProofLiterals b.proof
 HasProverLiterals (Whole inv spents) = All HasProofLiterals inv.kept × All (λ (b : Block). HasProofLiterals b.proof) spents
 
+pub record HaveSearchLiterals (search : SearchBlocks) : Type 0 where
+  pub refuted : All (λ (b : Block). HasProofLiterals b.proof) search.refuted
+  pub spent : HaveLiterals search.spent
+
 pub record HaveEndLiterals (ends : Ends) : Type 0 where
-  pub sweep : HaveLiterals ends.sweep
-  pub batches : All (λ (end : BatchEnd). HaveLiterals end.spent) ends.batches
+  pub sweep : HaveSearchLiterals ends.sweep
+  pub batches : All (λ (end : BatchEnd). HaveSearchLiterals end.hop) ends.batches
   pub prover : HasProverLiterals ends.prover

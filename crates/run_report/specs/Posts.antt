@@ -16,7 +16,7 @@ use Rattle.run_report.specs.declared.posts.Basis.{Basis}
 use Rattle.run_report.specs.declared.posts.Basis.TheVariants.{Witness, Proof}
 use Rattle.run_report.specs.declared.posts.Finding.{Finding}
 use Rattle.run_report.specs.declared.posts.Post.{Post}
-use Rattle.run_report.specs.Found.{Found}
+use Rattle.goal_facts.specs.Found.{Found}
 
 abbrev pub entries_of : List Post → List Entry
 entries_of posts = map (λ (p : Post). p.entry) posts

@@ -18,7 +18,8 @@ use Rattle.run_report.specs.declared.proving.Proving.{Proving}
 use Rattle.run_report.specs.declared.ends.ProverEnd.{ProverEnd}
 use Rattle.run_report.specs.declared.ends.ProverEnd.TheVariants.{NotRun, AllSettled, Spent, Whole}
 use Rattle.run_report.specs.Ends.{IsSpentEnd}
-use Rattle.run_report.specs.Invariants.{Excludes, IsInv}
+use Rattle.goal_facts.specs.Invariants.{Excludes}
+use Rattle.run_report.specs.Invariants.{IsInv}
 use Rattle.run_report.specs.Queries.{item_of}
 use Rattle.run_report.specs.Run.{goals_of}
 

@@ -16,7 +16,7 @@ use Rattle.report_text.specs.declared.report.BlockName.{BlockName}
 use Rattle.report_text.specs.declared.report.BlockName.TheVariants as names
 use Rattle.report_text.specs.declared.report.Block.{Block}
 use Rattle.report_text.specs.declared.report.SeedLine.{SeedLine}
-use Rattle.run_report.specs.Invariants.{IsGreatestInvariant, HoldsGreatestInvariant}
+use Rattle.goal_facts.specs.Invariants.{HoldsGreatestInvariant, IsGreatestInvariant}
 
 -- ---- order: the sweep, the hops by batch, the proof that a clause is kept, the proofs that goals are excluded by goal
 abbrev pub section_of : BlockName → ℕ

@@ -19,7 +19,7 @@ use Rattle.report_text.specs.declared.report.GoalBlock.{GoalBlock}
 use Rattle.report_text.specs.declared.report.GoalBlock.TheVariants as blocks
 use Rattle.report_text.specs.declared.report.Report.{Report}
 use Rattle.board_core.specs.History.{IsLegalHistory, IsInOrder, first_entry, verdict_of}
-use Rattle.run_report.specs.Found.{Found}
+use Rattle.goal_facts.specs.Found.{Found}
 use Rattle.run_report.specs.Bounds.{Bounds, bounds_of}
 use Rattle.run_report.specs.Invariants.{AreInvs}
 use Rattle.run_report.specs.Queries.{AreSpents}

@@ -3,12 +3,9 @@ use Rattle.std.specs.Prelude.{◌≡◌, ℕ, List, map}
 use Rattle.aig_model.specs.declared.parts.Parts.{Parts}
 use Rattle.aig_model.specs.declared.trace.Trace.{Trace}
 use Rattle.board_core.specs.declared.entry.Source.TheVariants.{Zero, Sweep}
-use Rattle.report_text.specs.declared.report.BlockName.TheVariants as names
-use Rattle.report_text.specs.declared.report.Block.{Block}
 use Rattle.sim_walk.specs.declared.visit.Visit.{Visit}
 use Rattle.sim_walk.specs.Zero.{IsZeroTrace}
 use Rattle.sweep_search.specs.declared.swept.FoundGoal.{FoundGoal}
-use Rattle.sweep_search.specs.declared.swept.SpentQuery.{SpentQuery}
 use Rattle.run_report.specs.declared.posts.Basis.TheVariants.{Witness}
 use Rattle.run_report.specs.declared.posts.Finding.{Finding}
 
@@ -26,6 +23,3 @@ pub record IsZeroFinding (c : Parts) (v : Visit) (f : Finding) : Type 0 where
 -- what the sweep finds
 abbrev pub sweep_finding : FoundGoal → Finding
 sweep_finding f = record { goal = f.goal; source = Sweep; basis = Witness f.trace }
-
-abbrev pub sweep_block : SpentQuery → Block
-sweep_block q = record { name = names.Sweep q.step; blocked = q.blocked; proof = q.proof }

@@ -60,7 +60,7 @@ fn hop_bound(options: &Options, batch: u32, end: &BatchEnd) -> HopBound
     if end.seed.is_none() {
         return HopBound::NoSeed;
     }
-    let step = match &end.spent {
+    let step = match &end.hop.spent {
         None => None,
         Some(block) => hop_step(batch, &block.name),
     };
@@ -140,7 +140,7 @@ pub(crate) fn bounds_of(
     let hops = hop_bounds(alloc, options, &ends.batches)?;
     let cut = cut_by(alloc, goals, &ends.prover)?;
     Ok(OpenBounds {
-        depth: depth_bound(options, &ends.sweep),
+        depth: depth_bound(options, &ends.sweep.spent),
         hops,
         strength: strength_after(options, &ends.prover),
         cut,

@@ -4,7 +4,7 @@ ghost use Rattle.std.specs.Prelude.{◌≡◌, ◌^◌, length, count_by, IfOk};
 ghost use Rattle.aig_model.specs.SignalList.{IsSignals};
 ghost use Rattle.aig_model.specs.WellFormed.{IsCircuit};
 ghost use Rattle.report_text.specs.Form.{FitsOptions, HasForm};
-ghost use Rattle.run_report.specs.Ended.{all_spents, invs_from, seeds_of};
+ghost use Rattle.run_report.specs.Ended.{all_refutes, all_spents, invs_from, seeds_of};
 ghost use Rattle.run_report.specs.Ends.{AreTold, inv_of, scope_of};
 ghost use Rattle.run_report.specs.Lines.{AreShort};
 ghost use Rattle.run_report.specs.Posts.{IsHistory, entries_of};
@@ -32,28 +32,36 @@ struct Sections {
     seeds: SeedLines,
     invs: Invs,
     spents: Blocks,
+    refutes: Blocks,
 }
 
 fn sections_of(alloc: Global, ends: Ends, unreachable: usize) -> Result<Sections, OutOfMemory>
     ensures seeds { IfOk result (λ sections. sections.seeds ≡ seeds_of ends.batches) }
     ensures invs { IfOk result (λ sections. sections.invs ≡ invs_from unreachable (inv_of ends.prover)) }
     ensures spents { IfOk result (λ sections. sections.spents ≡ all_spents ends) }
+    ensures refutes { IfOk result (λ sections. sections.refutes ≡ all_refutes ends) }
 {
+    let Ends {
+        sweep,
+        batches,
+        prover,
+    } = ends;
+    let mut refutes = sweep.refuted;
     let mut spents = Blocks::new(alloc);
-    add_optional(&mut spents, ends.sweep)?;
-    let seeds = add_batches(alloc, &mut spents, ends.batches)?;
-    let inv = add_prover(&mut spents, ends.prover)?;
+    add_optional(&mut spents, sweep.spent)?;
+    let seeds = add_batches(alloc, &mut spents, &mut refutes, batches)?;
+    let inv = add_prover(&mut spents, prover)?;
     let invs = invs_from(alloc, unreachable, inv)?;
     Ok(Sections {
         seeds,
         invs,
         spents,
+        refutes,
     })
 }
 
 /// The report around its parts.
 fn report_of(
-    alloc: Global,
     circuit: &Circuit,
     signals: &Signals,
     options: Options,
@@ -66,7 +74,7 @@ fn report_of(
     requires each_goal { length blocks.items ≡ 2 ^ length signals.now.lits }
     requires unreachable { unreachable ≡ count_by is_unreachable blocks.items }
 
-    ensures holds { Holds circuit.now signals.now.lits options history blocks.items sections.seeds sections.invs sections.spents result }
+    ensures holds { Holds circuit.now signals.now.lits options history blocks.items sections.seeds sections.invs sections.spents sections.refutes result }
 
     // What the types of the circuit, the signals and the options keep.
     ensures circuit { IsCircuit circuit.now }
@@ -87,7 +95,7 @@ fn report_of(
         invs: sections.invs,
         goals: GoalBlocks::from_vec(blocks),
         spents: sections.spents,
-        refutes: Blocks::new(alloc),
+        refutes: sections.refutes,
         reached: reached as u32,
         unreachable: unreachable as u32,
         unsettled: (goals - reached - unreachable) as u32,
@@ -122,7 +130,6 @@ pub fn compose(
     let unreachable = unreachable_among(blocks.as_slice());
     let sections = sections_of(alloc, ends, unreachable)?;
     Ok(report_of(
-        alloc,
         circuit,
         signals,
         *options,

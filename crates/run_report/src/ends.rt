@@ -3,12 +3,20 @@
 use ketch_base::Sequence;
 use report_text::{Block, Blocks, Inv, SeedLine};
 
-/// How a batch ends: with a seed, where some lane visits a step. From there the search goes to the
+/// The queries that a search leaves: one that has no model of each step that was searched whole, where the options ask for
+/// them, and the one at which it stopped, if that was spent.
+#[derive(Debug, Drop)]
+pub struct SearchBlocks {
+    pub refuted: Blocks,
+    pub spent: Option<Block>,
+}
+
+/// How a batch ends: with a seed, where some lane visits a step. From there the hop goes to the
 /// step that the options ask for, or to a query that is spent.
 #[derive(Debug, Drop)]
 pub struct BatchEnd {
     pub seed: Option<SeedLine>,
-    pub spent: Option<Block>,
+    pub hop: SearchBlocks,
 }
 
 pub type BatchEnds = Sequence<BatchEnd>;
@@ -24,10 +32,10 @@ pub enum ProverEnd {
     Whole { inv: Inv, spents: Blocks },
 }
 
-/// The query at which the sweep stopped, if one was spent; the batches from reset, in their order; the prover.
+/// The sweep; the batches from reset, in their order; the prover.
 #[derive(Debug, Drop)]
 pub struct Ends {
-    pub sweep: Option<Block>,
+    pub sweep: SearchBlocks,
     pub batches: BatchEnds,
     pub prover: ProverEnd,
 }

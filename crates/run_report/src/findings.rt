@@ -1,19 +1,18 @@
 //! What the engines find, as findings.
 
-ghost use Rattle.std.specs.Prelude.{◌≡◌, ◌↔◌, ◌<◌, ◌^◌, ◌++◌, ℕ, All, map, length, get_or, true, false, option_map, Contains, IfOk, OnOk};
+ghost use Rattle.std.specs.Prelude.{◌≡◌, ◌↔◌, ◌<◌, ◌^◌, ◌++◌, ℕ, All, map, length, get_or, true, false, Contains, IfOk, OnOk};
 ghost use Rattle.std.specs.List.{AllZip};
 ghost use Rattle.sim_walk.specs.Zero.{AreZeroVisits};
 ghost use Rattle.sweep_search.specs.Sweep.{IsMarked};
-ghost use Rattle.run_report.specs.Run.{IsZeroFinding, goals_of, sweep_block, sweep_finding};
+ghost use Rattle.run_report.specs.Run.{IsZeroFinding, goals_of, sweep_finding};
 
 use crate::posts::{Basis, Finding, Findings};
 use aig_model::{Bits, Circuit, Signals};
 use board_core::Source;
 use ketch_base::OutOfMemory;
-use report_text::{Block, BlockName};
 use sim_walk::{Options, Visits, zero_trace};
 use std::alloc::Global;
-use sweep_search::{FoundGoals, SpentQuery};
+use sweep_search::FoundGoals;
 
 /// The visits of the zero walk, each with the trace that leads to it.
 pub(crate) fn visited(
@@ -78,16 +77,4 @@ pub(crate) fn add_findings(findings: &mut Findings, more: Findings) -> Result<()
         findings.push(new)?;
     }
     Ok(())
-}
-
-/// The query at which the sweep stopped, as a report tells it.
-pub(crate) fn sweep_block(spent: Option<SpentQuery>) -> Option<Block>
-    ensures { result ≡ option_map sweep_block spent }
-{
-    let query = spent?;
-    Some(Block {
-        name: BlockName::Sweep { step: query.step },
-        blocked: query.blocked,
-        proof: query.proof,
-    })
 }

@@ -1,23 +1,24 @@
 //! Hops: bounded searches from the seeds of batches, as findings.
 
-ghost use Rattle.std.specs.Prelude.{◌≡◌, ◌<◌, ◌≤◌, ◌+◌, ◌^◌, ◌++◌, All, map, length, option_map, Some, IfOk, OnOk};
-ghost use Rattle.run_report.specs.Batches.{AddsHop, AddsHopEnd, hop_block, hop_finding, line_of};
+ghost use Rattle.std.specs.Prelude.{◌≡◌, ◌<◌, ◌≤◌, ◌+◌, ◌^◌, ◌++◌, All, map, length, Some, IfOk, OnOk};
+ghost use Rattle.run_report.specs.Batches.{AddsHop, AddsHopEnd, hop_finding, line_of};
 ghost use Rattle.run_report.specs.Run.{goals_of};
-ghost use Rattle.run_report.specs.Seeds.{IsSeedOfBatch};
+ghost use Rattle.goal_facts.specs.Seeds.{IsSeedOfBatch};
 ghost use Rattle.sweep_search.specs.declared.swept.FoundGoal.{FoundGoal};
 ghost use Rattle.unroll.specs.Frames.{vars_before};
 
-use crate::ends::BatchEnd;
+use crate::ends::{BatchEnd, SearchBlocks};
 use crate::findings::marks;
 use crate::posts::{Basis, Finding, Findings};
+use crate::searches::{Search, search_blocks};
 use aig_model::{Circuit, Rows, Signals};
 use board_core::Source;
 use ketch_base::OutOfMemory;
-use report_text::{Block, BlockName, SeedLine};
+use report_text::{Blocks, SeedLine};
 use sim_batch::Seed;
 use sim_walk::Options;
 use std::alloc::Global;
-use sweep_search::{FoundGoals, SpentQuery, Swept, hop_from};
+use sweep_search::{FoundGoals, Swept, hop_from};
 
 /// The seed as a report tells it.
 fn seed_line(alloc: Global, seed: &Seed) -> Result<SeedLine, OutOfMemory>
@@ -56,21 +57,6 @@ fn add_found(
     Ok(())
 }
 
-/// The query at which a hop stopped, as a report tells it.
-fn hop_block(batch: u32, spent: Option<SpentQuery>) -> Option<Block>
-    ensures { result ≡ option_map (hop_block batch) spent }
-{
-    let query = spent?;
-    Some(Block {
-        name: BlockName::Hop {
-            batch,
-            step: query.step,
-        },
-        blocked: query.blocked,
-        proof: query.proof,
-    })
-}
-
 /// The hop from a batch's seed, for the goals that nothing settled.
 fn add_hop(
     alloc: Global,
@@ -80,7 +66,7 @@ fn add_hop(
     batch: u32,
     seed: &Seed,
     findings: &mut Findings,
-) -> Result<Option<Block>, OutOfMemory>
+) -> Result<SearchBlocks, OutOfMemory>
     requires signals { signals.now.circuit ≡ circuit.now }
     requires seed { IsSeedOfBatch circuit.now signals.now.lits options.now batch (Some seed.now) }
     requires batch { batch < options.now.batches }
@@ -92,7 +78,12 @@ fn add_hop(
 {
     seed.is_well_formed();
     let known = marks(alloc, signals, findings)?;
-    let Swept { found, spent, .. } = hop_from(
+    let Swept {
+        found,
+        refuted,
+        spent,
+        ..
+    } = hop_from(
         alloc,
         circuit,
         signals,
@@ -100,9 +91,11 @@ fn add_hop(
         &known,
         options.hop,
         options.lemmas,
+        options.proofs,
     )?;
     add_found(alloc, batch, seed, found, findings)?;
-    Ok(hop_block(batch, spent))
+    let blocks = search_blocks(alloc, Search::Hop(batch), refuted, spent)?;
+    Ok(blocks)
 }
 
 /// How a batch ends that has this seed, or none.
@@ -127,14 +120,17 @@ pub(crate) fn hop_end(
     match seed {
         None => Ok(BatchEnd {
             seed: None,
-            spent: None,
+            hop: SearchBlocks {
+                refuted: Blocks::new(alloc),
+                spent: None,
+            },
         }),
         Some(seed) => {
-            let spent = add_hop(alloc, circuit, signals, options, batch, &seed, findings)?;
+            let hop = add_hop(alloc, circuit, signals, options, batch, &seed, findings)?;
             let line = seed_line(alloc, &seed)?;
             Ok(BatchEnd {
                 seed: Some(line),
-                spent,
+                hop,
             })
         }
     }

@@ -15,9 +15,10 @@ mod posts;
 mod proving;
 mod queries;
 mod run;
+mod searches;
 
 pub use composing::compose;
-pub use ends::{BatchEnd, BatchEnds, Ends, ProverEnd};
+pub use ends::{BatchEnd, BatchEnds, Ends, ProverEnd, SearchBlocks};
 pub use laws::true_reports_settle;
 pub use posts::{Basis, Finding, Findings, Post, Posts, post_all};
 pub use run::run_engines;

@@ -3,11 +3,11 @@
 ghost use Rattle.std.specs.Prelude.{All};
 ghost use Rattle.lrat_text.specs.Text.{HasProofLiterals};
 ghost use Rattle.report_text.specs.declared.report.Block.{Block};
-ghost use Rattle.run_report.specs.Lines.{HasBasisLiterals, HaveEndLiterals, HaveLiterals, HasProverLiterals};
+ghost use Rattle.run_report.specs.Lines.{HasBasisLiterals, HaveEndLiterals, HaveLiterals, HasProverLiterals, HaveSearchLiterals};
 ghost use Rattle.run_report.specs.declared.ends.BatchEnd.{BatchEnd};
 ghost use Rattle.run_report.specs.declared.posts.Post.{Post};
 
-use crate::ends::{BatchEnds, Ends, ProverEnd};
+use crate::ends::{BatchEnds, Ends, ProverEnd, SearchBlocks};
 use crate::posts::{Basis, Posts};
 use lrat_text::Proofs;
 use report_text::{Block, Blocks, proof_literals_fit};
@@ -36,11 +36,18 @@ fn proofs_literals_fit(proofs: &Proofs)
     }
 }
 
+fn search_literals_fit(search: &SearchBlocks)
+    ensures { HaveSearchLiterals search.now }
+{
+    blocks_literals_fit(&search.refuted);
+    block_literals_fit(&search.spent);
+}
+
 fn batches_literals_fit(batches: &BatchEnds)
-    ensures { All (λ (end : BatchEnd). HaveLiterals end.spent) batches.now }
+    ensures { All (λ (end : BatchEnd). HaveSearchLiterals end.hop) batches.now }
 {
     for end in batches.as_slice() {
-        block_literals_fit(&end.spent);
+        search_literals_fit(&end.hop);
     }
 }
 
@@ -77,7 +84,7 @@ pub(crate) fn posts_literals_fit(posts: &Posts)
 pub(crate) fn ends_literals_fit(ends: &Ends)
     ensures { HaveEndLiterals ends.now }
 {
-    block_literals_fit(&ends.sweep);
+    search_literals_fit(&ends.sweep);
     batches_literals_fit(&ends.batches);
     prover_literals_fit(&ends.prover);
 }

@@ -2,9 +2,9 @@
 
 ghost use Rattle.std.specs.Prelude.{◌≡◌, ◌++◌, IfOk, OnOk};
 ghost use Rattle.run_report.specs.Ends.{optional, inv_of};
-ghost use Rattle.run_report.specs.Ended.{hop_blocks, invs_from, prover_blocks, seeds_of};
+ghost use Rattle.run_report.specs.Ended.{hop_refutes, hop_spents, invs_from, prover_blocks, seeds_of};
 
-use crate::ends::{BatchEnds, ProverEnd};
+use crate::ends::{BatchEnd, BatchEnds, ProverEnd};
 use ketch_base::OutOfMemory;
 use report_text::{Block, Blocks, Inv, Invs, SeedLines};
 use std::alloc::Global;
@@ -18,30 +18,34 @@ pub(crate) fn add_optional(blocks: &mut Blocks, block: Option<Block>) -> Result<
     Ok(())
 }
 
-/// The seeds of the batches. Their spent queries come after those that are there.
+fn add_all(blocks: &mut Blocks, more: Blocks) -> Result<(), OutOfMemory>
+    ensures { OnOk result (blocks.new ≡ blocks.old ++ more) }
+{
+    for next in more.into_vec() {
+        blocks.push(next)?;
+    }
+    Ok(())
+}
+
+/// The seeds of the batches. The queries of their hops come after those that are there.
 pub(crate) fn add_batches(
     alloc: Global,
     spents: &mut Blocks,
+    refutes: &mut Blocks,
     batches: BatchEnds,
 ) -> Result<SeedLines, OutOfMemory>
     ensures seeds { IfOk result (λ seeds. seeds ≡ seeds_of batches) }
-    ensures spents { OnOk result (spents.new ≡ spents.old ++ hop_blocks batches) }
+    ensures spents { OnOk result (spents.new ≡ spents.old ++ hop_spents batches) }
+    ensures refutes { OnOk result (refutes.new ≡ refutes.old ++ hop_refutes batches) }
 {
     let mut seeds = SeedLines::new(alloc);
     for end in batches.into_vec() {
-        seeds.push(end.seed)?;
-        add_optional(spents, end.spent)?;
+        let BatchEnd { seed, hop } = end;
+        seeds.push(seed)?;
+        add_optional(spents, hop.spent)?;
+        add_all(refutes, hop.refuted)?;
     }
     Ok(seeds)
-}
-
-fn add_all(spents: &mut Blocks, more: Blocks) -> Result<(), OutOfMemory>
-    ensures { OnOk result (spents.new ≡ spents.old ++ more) }
-{
-    for block in more.into_vec() {
-        spents.push(block)?;
-    }
-    Ok(())
 }
 
 /// The clauses of the prover. Its spent queries come last.

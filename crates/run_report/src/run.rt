@@ -8,27 +8,28 @@ ghost use Rattle.run_report.specs.Posts.{IsFinding, IsHistory, entries_of, posts
 ghost use Rattle.run_report.specs.Ranges.{AreRunnable};
 ghost use Rattle.run_report.specs.Report.{Tells};
 ghost use Rattle.run_report.specs.Run.{goals_of};
-ghost use Rattle.run_report.specs.Scope.{today};
+ghost use Rattle.run_report.specs.Scope.{whole};
 ghost use Rattle.unroll.specs.Frames.{vars_before};
 
 use crate::batches::run_batches;
 use crate::composing::compose;
-use crate::ends::Ends;
-use crate::findings::{add_findings, add_found, marks, sweep_block, visited};
+use crate::ends::{Ends, SearchBlocks};
+use crate::findings::{add_findings, add_found, marks, visited};
 use crate::posts::{Findings, post_all};
 use crate::proving::{Proving, prove};
+use crate::searches::{Search, search_blocks};
 use aig_model::{Circuit, Signals};
 use ketch_base::OutOfMemory;
-use report_text::{Block, Report};
+use report_text::Report;
 use sim_walk::{Options, zero_walk};
 use std::alloc::Global;
 use sweep_search::{Swept, sweep};
 
-/// What the walk and the sweep found, and the query at which the sweep stopped.
+/// What the walk and the sweep found, and the queries of the sweep.
 #[derive(Drop)]
 struct Searched {
     findings: Findings,
-    spent: Option<Block>,
+    sweep: SearchBlocks,
 }
 
 /// What all engines found, and how they ended.
@@ -50,23 +51,30 @@ fn search(
     requires options { AreRunnable options.now }
     ensures found { IfOk result (λ s. All (IsFinding circuit.now signals.now.lits options.now None) s.findings) }
     ensures once { IfOk result (λ s. AllPairs (λ m n. m ≢ n) (goals_of s.findings)) }
-    ensures told { IfOk result (λ s. IsSearchTold circuit.now signals.now.lits options.now (entries_of (posts_of s.findings)) s.spent) }
+    ensures told { IfOk result (λ s. IsSearchTold circuit.now signals.now.lits options.now (entries_of (posts_of s.findings)) s.sweep) }
 {
     let visits = zero_walk(alloc, circuit, signals, options)?;
     let mut findings = visited(alloc, circuit, signals, options, &visits)?;
     let known = marks(alloc, signals, &findings)?;
-    let Swept { found, spent, .. } = sweep(
+    let Swept {
+        found,
+        refuted,
+        spent,
+        ..
+    } = sweep(
         alloc,
         circuit,
         signals,
         &known,
         options.depth,
         options.lemmas,
+        options.proofs,
     )?;
     add_found(&mut findings, found)?;
+    let blocks = search_blocks(alloc, Search::Sweep, refuted, spent)?;
     Ok(Searched {
         findings,
-        spent: sweep_block(spent),
+        sweep: blocks,
     })
 }
 
@@ -90,7 +98,7 @@ fn run_jobs(
     signals.is_well_formed();
     let Searched {
         mut findings,
-        spent,
+        sweep,
     } = search(alloc, circuit, signals, options)?;
     let known = marks(alloc, signals, &findings)?;
     let Proving {
@@ -102,7 +110,7 @@ fn run_jobs(
     Ok(RunEnd {
         findings,
         ends: Ends {
-            sweep: spent,
+            sweep,
             batches,
             prover: end,
         },
@@ -121,7 +129,7 @@ pub fn run_engines(
     requires hop_room { vars_before circuit.now (options.now.hop + 1) ≤ 4000000 }
     requires options { AreRunnable options.now }
     ensures form { IfOk result HasForm }
-    ensures tells { IfOk result (Tells circuit.now signals.now.lits options.now today) }
+    ensures tells { IfOk result (Tells circuit.now signals.now.lits options.now whole) }
 {
     let RunEnd { findings, ends } = run_jobs(alloc, circuit, signals, options)?;
     let posts = post_all(alloc, findings)?;

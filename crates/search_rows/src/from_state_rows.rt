@@ -8,7 +8,7 @@ use aig_model::{Bits, Circuit, Signals};
 use ketch_base::OutOfMemory;
 use std::alloc::Global;
 use std::test::Fail;
-use sweep_search::{FoundGoal, FoundGoals, SpentQuery, Swept, hop_from};
+use sweep_search::{FoundGoal, FoundGoals, StepQuery, Swept, hop_from};
 
 /// Where a hop starts, and what comes of it: the steps at which the two goals are found, the last step that is
 /// searched whole, and the step of a spent query.
@@ -137,7 +137,9 @@ fn hopped(
     if !fits || vars > 4_000_000 || row.lemmas == 0 || row.lemmas > 1000 {
         return Err(OutOfMemory);
     }
-    hop_from(alloc, circuit, signals, state, &known, row.hop, row.lemmas)
+    hop_from(
+        alloc, circuit, signals, state, &known, row.hop, row.lemmas, false,
+    )
 }
 
 /// The trace begins in the state, and has a row for each step.
@@ -162,7 +164,7 @@ fn step_of(found: &FoundGoals, goal: u32, state: &Bits) -> Option<u32> {
     None
 }
 
-fn spent_step(spent: &Option<SpentQuery>) -> Option<u32> {
+fn spent_step(spent: &Option<StepQuery>) -> Option<u32> {
     match spent {
         Some(query) => Some(query.step),
         None => None,

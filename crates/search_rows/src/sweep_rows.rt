@@ -8,7 +8,7 @@ use aig_model::{Circuit, Signals};
 use ketch_base::OutOfMemory;
 use std::alloc::Global;
 use std::test::Fail;
-use sweep_search::{FoundGoals, SpentQuery, Swept, sweep};
+use sweep_search::{FoundGoals, StepQueries, StepQuery, Swept, sweep};
 
 /// What is swept, and what comes of it: the steps at which the two goals are found, the last step that is searched
 /// whole, and the step of a spent query.
@@ -123,6 +123,7 @@ fn swept(
     circuit: &Circuit,
     signals: &Signals,
     row: &Row,
+    keep: bool,
 ) -> Result<Swept, OutOfMemory>
     requires { signals.now.circuit ≡ circuit.now }
 {
@@ -132,7 +133,7 @@ fn swept(
         return Err(OutOfMemory);
     }
     let known = known(alloc, signals, row.knows_zero)?;
-    sweep(alloc, circuit, signals, &known, row.depth, row.lemmas)
+    sweep(alloc, circuit, signals, &known, row.depth, row.lemmas, keep)
 }
 
 fn step_of(found: &FoundGoals, goal: u32) -> Option<u32> {
@@ -144,10 +145,23 @@ fn step_of(found: &FoundGoals, goal: u32) -> Option<u32> {
     None
 }
 
-fn spent_step(spent: &Option<SpentQuery>) -> Option<u32> {
+fn spent_step(spent: &Option<StepQuery>) -> Option<u32> {
     match spent {
         Some(query) => Some(query.step),
         None => None,
+    }
+}
+
+/// Whether there is one query for each step up to this one, in their order.
+fn are_up_to(refuted: &StepQueries, upto: Option<u32>) -> bool {
+    for (place, query) in refuted.as_slice().iter().enumerate() {
+        if query.step as usize != place {
+            return false;
+        }
+    }
+    match upto {
+        Some(step) => refuted.len() == step as usize + 1,
+        None => refuted.is_empty(),
     }
 }
 
@@ -158,25 +172,26 @@ fn is_as_told(swept: &Swept, row: &Row) -> bool {
         && spent_step(&swept.spent) == row.spent
 }
 
-fn has_answer(alloc: Global, circuit: &Circuit, signals: &Signals, row: &Row) -> bool
+fn has_answer(alloc: Global, circuit: &Circuit, signals: &Signals, row: &Row, keep: bool) -> bool
     requires { signals.now.circuit ≡ circuit.now }
 {
-    match swept(alloc, circuit, signals, row) {
-        Ok(swept) => is_as_told(&swept, row),
+    let kept = if keep { row.upto } else { None };
+    match swept(alloc, circuit, signals, row, keep) {
+        Ok(swept) => is_as_told(&swept, row) && are_up_to(&swept.refuted, kept),
         Err(_) => false,
     }
 }
 
-fn sweeps(alloc: Global, circuit: &Circuit, row: &Row) -> bool {
+fn sweeps(alloc: Global, circuit: &Circuit, row: &Row, keep: bool) -> bool {
     match signals(alloc, row.signal, circuit) {
-        Some(signals) => has_answer(alloc, circuit, &signals, row),
+        Some(signals) => has_answer(alloc, circuit, &signals, row, keep),
         None => false,
     }
 }
 
-fn is_met(alloc: Global, row: &Row) -> bool {
+fn is_met(alloc: Global, row: &Row, keep: bool) -> bool {
     match read_aag(alloc, row.circuit) {
-        Ok(circuit) => sweeps(alloc, &circuit, row),
+        Ok(circuit) => sweeps(alloc, &circuit, row, keep),
         Err(_) => false,
     }
 }
@@ -184,6 +199,13 @@ fn is_met(alloc: Global, row: &Row) -> bool {
 #[test]
 fn sweeps_from_reset(rt: HostRuntime) {
     for (place, row) in ROWS.iter().enumerate() {
-        assert!(rt; is_met(rt.alloc(), row), "row {place}");
+        assert!(rt; is_met(rt.alloc(), row, false), "row {place}");
+    }
+}
+
+#[test]
+fn queries_are_kept(rt: HostRuntime) {
+    for (place, row) in ROWS.iter().enumerate() {
+        assert!(rt; is_met(rt.alloc(), row, true), "row {place}");
     }
 }

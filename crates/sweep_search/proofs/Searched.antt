@@ -54,7 +54,7 @@ reached_from c sig starts.Any d goal w = (record { state = w.0; allowed = w.1; t
 reached_from c sig starts.Reset d goal w = (record { state = w.state; allowed = w.reset; t = w.t; at = w.at }, w.near)
 reached_from c sig (starts.State state) d goal w = (record { state = state; allowed = refl; t = w.0; at = w.2 }, w.1)
 
-within_from : (c : Parts) (sig : List ℕ) (start : Start) (d goal : ℕ) (r : IsReachedFrom c sig start goal) → r.t ≤ d → IsWithin c sig start d goal
+pub within_from : (c : Parts) (sig : List ℕ) (start : Start) (d goal : ℕ) (r : IsReachedFrom c sig start goal) → r.t ≤ d → IsWithin c sig start d goal
 within_from c sig starts.Any d goal r near = (r.state, r.allowed, r.t, near, r.at)
 within_from c sig starts.Reset d goal r near = record { state = r.state; reset = r.allowed; t = r.t; near = near; at = r.at }
 within_from c sig (starts.State state) d goal r near = (r.t, near, subst (λ (s : List Bool). At c sig s r.t goal) r.allowed r.at)
@@ -65,14 +65,14 @@ ends_in c sig start step blocked goal trace new =
     let last : length new.frames - 1 ≡ step = omega (arith, new.size) in
     record { width = new.width; frames = new.frames; rows = new.rows; run = new.run; shows = ap (λ n. goal_of sig (get_or new.frames n [])) last ∙ new.shows }
 
-new_shows : (c : Parts) (sig : List ℕ) (start : Start) (step : ℕ) (blocked : List ℕ) (goal : ℕ) (trace : Trace) → IsNewGoal c sig start step blocked goal trace
+pub new_shows : (c : Parts) (sig : List ℕ) (start : Start) (step : ℕ) (blocked : List ℕ) (goal : ℕ) (trace : Trace) → IsNewGoal c sig start step blocked goal trace
     → ShowsFrom c sig start trace goal
 new_shows c sig starts.Any step blocked goal trace new = (new.allowed, ends_in c sig starts.Any step blocked goal trace new)
 new_shows c sig starts.Reset step blocked goal trace new = new_replays_lem c sig step blocked goal trace new
 new_shows c sig (starts.State state) step blocked goal trace new = (new.allowed, ends_in c sig (starts.State state) step blocked goal trace new)
 
 -- a goal that a trace shows is below the number of goals
-shown_below : (c : Parts) (sig : List ℕ) (start : Start) (trace : Trace) (goal : ℕ) → ShowsFrom c sig start trace goal → goal < 2 ^ length sig
+pub shown_below : (c : Parts) (sig : List ℕ) (start : Start) (trace : Trace) (goal : ℕ) → ShowsFrom c sig start trace goal → goal < 2 ^ length sig
 shown_below c sig starts.Any trace goal s = subst (λ (g : ℕ). g < 2 ^ length sig) s.1.shows (goal_of-lt sig (get_or s.1.frames (length s.1.frames - 1) []))
 shown_below c sig starts.Reset trace goal s = subst (λ (g : ℕ). g < 2 ^ length sig) s.shows (goal_of-lt sig (get_or s.frames (length s.frames - 1) []))
 shown_below c sig (starts.State state) trace goal s = subst (λ (g : ℕ). g < 2 ^ length sig) s.1.shows (goal_of-lt sig (get_or s.1.frames (length s.1.frames - 1) []))
@@ -145,7 +145,7 @@ some_left c sig start known found blocked size news settled rising other all =
     other (omega (arith, least, most))
 
 -- ---- each goal is found once
-has_goal : (found : List FoundGoal) (k : ℕ) (d : FoundGoal) → k < length found → Contains (goals_of found) ((get_or found k d).goal)
+pub has_goal : (found : List FoundGoal) (k : ℕ) (d : FoundGoal) → k < length found → Contains (goals_of found) ((get_or found k d).goal)
 has_goal found k d l =
     subst (Contains (goals_of found)) (get_or-map (λ (f : FoundGoal). f.goal) found k d d.goal l)
     (Contains-get_or (goals_of found) k d.goal (omega (arith, length-map found (λ (f : FoundGoal). f.goal))))

@@ -1,16 +1,16 @@
 -- What a search finds, step by step from its start, and how far it goes. A sweep is one from reset, a hop one from a state.
-use Rattle.std.specs.Prelude.{◌≡◌, ◌≢◌, ◌⊎◌, ℕ, suc, ◌+◌, ◌-◌, ◌<◌, ◌≤◌, ◌^◌, ◌↔◌, Bool, false, true, List, [], length, map, get_or, All, AllPairs, Any, Contains, Option, Some, None, IfSome}
+use Rattle.std.specs.Prelude.{◌≡◌, ◌≢◌, ◌⊎◌, ℕ, suc, ◌+◌, ◌-◌, ◌<◌, ◌≤◌, ◌^◌, ◌↔◌, Bool, false, true, List, [], length, map, get_or, All, AllPairs, Any, Contains, slice_get, Option, Some, None, IfSome}
 use Rattle.std.specs.List.Sorted.{IsStrictlyIncreasing}
 use Rattle.aig_model.specs.Meaning.{Assignment, At, Run, Within, goal_of, input_values}
 use Rattle.aig_model.specs.Replays.{Shows}
 use Rattle.aig_model.specs.declared.parts.Parts.{Parts}
 use Rattle.aig_model.specs.declared.trace.Trace.{Trace}
-use Rattle.sat_solver.specs.Answer.{IsSpending}
+use Rattle.sat_solver.specs.Answer.{IsRefutation, IsSpending}
 use Rattle.unroll.specs.declared.start.Start.{Start}
 use Rattle.unroll.specs.declared.start.Start.TheVariants as starts
 use Rattle.unroll.specs.Queries.{search_formula}
 use Rattle.sweep_search.specs.declared.swept.FoundGoal.{FoundGoal}
-use Rattle.sweep_search.specs.declared.swept.SpentQuery.{SpentQuery}
+use Rattle.sweep_search.specs.declared.swept.StepQuery.{StepQuery}
 use Rattle.sweep_search.specs.declared.swept.Swept.{Swept}
 
 -- ---- goals that are settled
@@ -71,29 +71,52 @@ steps_up_to (Some t) = suc t
 
 -- The search of this step that leaves out exactly the settled goals takes more lemmas than the budget has: the proof spends
 -- it all.
-pub record IsSpentFrom (c : Parts) (sig : List ℕ) (start : Start) (known : List Bool) (found : List FoundGoal) (step lemmas : ℕ) (q : SpentQuery) : Type 0 where
+pub record IsSpentFrom (c : Parts) (sig : List ℕ) (start : Start) (known : List Bool) (found : List FoundGoal) (step lemmas : ℕ) (q : StepQuery) : Type 0 where
   pub step_is : q.step ≡ step
   pub blocked : (goal : ℕ) → Contains q.blocked goal ↔ IsSettled known found goal
   pub rising : IsStrictlyIncreasing q.blocked
   pub spending : IsSpending (search_formula c sig start q.step q.blocked) lemmas q.proof
 
+-- ---- the steps that are searched whole
+-- the goal was known before the search, or is found by it up to this step
+abbrev pub IsSettledBy : List Bool → List FoundGoal → ℕ → ℕ → Type 0
+IsSettledBy known found step goal = IsMarked known goal ⊎ Any (λ (f : FoundGoal). (f.step ≤ step) × (f.goal ≡ goal)) found
+
+-- The search of this step that leaves out exactly the goals that are settled once it ends has no model, as the proof shows.
+pub record IsRefutedFrom (c : Parts) (sig : List ℕ) (start : Start) (known : List Bool) (found : List FoundGoal) (step lemmas : ℕ) (q : StepQuery) : Type 0 where
+  pub step_is : q.step ≡ step
+  pub blocked : (goal : ℕ) → Contains q.blocked goal ↔ IsSettledBy known found step goal
+  pub rising : IsStrictlyIncreasing q.blocked
+  pub refutation : IsRefutation (search_formula c sig start q.step q.blocked) lemmas q.proof
+
+-- one query for each of so many steps, from 0 on
+pub record AreRefutedFrom (c : Parts) (sig : List ℕ) (start : Start) (known : List Bool) (found : List FoundGoal) (steps lemmas : ℕ) (queries : List StepQuery) : Type 0 where
+  pub count : length queries ≡ steps
+  pub each : (step : ℕ) (q : StepQuery) → slice_get queries step ≡ Some q → IsRefutedFrom c sig start known found step lemmas q
+
+-- they are told where the caller asks for them
+abbrev pub AreRefutedIf : Bool → Parts → List ℕ → Start → List Bool → List FoundGoal → ℕ → ℕ → List StepQuery → Type 0
+AreRefutedIf false c sig start known found steps lemmas queries = queries ≡ []
+AreRefutedIf true c sig start known found steps lemmas queries = AreRefutedFrom c sig start known found steps lemmas queries
+
+-- ---- where it ends
 -- the last goal of the list was found at this step, unless it is the first one
 abbrev pub IsLastStep : List FoundGoal → ℕ → Type 0
 IsLastStep found step = (step ≡ 0) ⊎ Any (λ (f : FoundGoal). f.step ≡ step) found
 
 -- The search went to the depth with some goal left, or to the step at which the last goal was settled; or a query of the next
 -- step is spent.
-abbrev pub IsEndFrom : Parts → List ℕ → Start → List Bool → ℕ → ℕ → List FoundGoal → Option ℕ → Option SpentQuery → Type 0
+abbrev pub IsEndFrom : Parts → List ℕ → Start → List Bool → ℕ → ℕ → List FoundGoal → Option ℕ → Option StepQuery → Type 0
 IsEndFrom c sig start known depth lemmas found upto None =
     ((upto ≡ Some depth) × (¬ AreAllSettled sig known found)) ⊎ (AreAllSettled sig known found × IsLastStep found (steps_up_to upto))
 IsEndFrom c sig start known depth lemmas found upto (Some q) = (q.step ≤ depth) × IsSpentFrom c sig start known found (steps_up_to upto) lemmas q
 
 -- the step comes before a spent query's
-abbrev pub IsBefore : ℕ → Option SpentQuery → Type 0
-IsBefore d spent = IfSome spent (λ (q : SpentQuery). d < q.step)
+abbrev pub IsBefore : ℕ → Option StepQuery → Type 0
+IsBefore d spent = IfSome spent (λ (q : StepQuery). d < q.step)
 
 -- ---- the whole search
-pub record IsSearchFrom (c : Parts) (sig : List ℕ) (start : Start) (known : List Bool) (depth lemmas : ℕ) (s : Swept) : Type 0 where
+pub record IsSearchFrom (c : Parts) (sig : List ℕ) (start : Start) (known : List Bool) (depth lemmas : ℕ) (keep : Bool) (s : Swept) : Type 0 where
   pub found : AreNewFrom c sig start known s.found
   -- each goal within the depth is settled, but for the step of a spent query and those after it
   pub settles : (d goal : ℕ) → d ≤ depth → IsBefore d s.spent → IsWithin c sig start d goal → IsSettled known s.found goal
@@ -104,6 +127,8 @@ pub record IsSearchFrom (c : Parts) (sig : List ℕ) (start : Start) (known : Li
   pub next : All (λ (f : FoundGoal). f.step ≤ steps_up_to s.upto) s.found
   pub shallow : All (λ (f : FoundGoal). f.step ≤ depth) s.found
   pub end : IsEndFrom c sig start known depth lemmas s.found s.upto s.spent
+  -- each step that was searched whole has the query that shows it, where they are kept
+  pub refuted : AreRefutedIf keep c sig start known s.found (steps_up_to s.upto) lemmas s.refuted
 
 -- ---- a sweep: from reset
 -- the goal is reached from reset, as its trace shows, and in no fewer steps
@@ -113,15 +138,15 @@ IsFirstReached c sig f = IsFirstFrom c sig starts.Reset f
 abbrev pub AreNewGoals : Parts → List ℕ → List Bool → List FoundGoal → Type 0
 AreNewGoals c sig known found = AreNewFrom c sig starts.Reset known found
 
-abbrev pub IsSpentQuery : Parts → List ℕ → List Bool → List FoundGoal → ℕ → ℕ → SpentQuery → Type 0
+abbrev pub IsSpentQuery : Parts → List ℕ → List Bool → List FoundGoal → ℕ → ℕ → StepQuery → Type 0
 IsSpentQuery c sig known found step lemmas q = IsSpentFrom c sig starts.Reset known found step lemmas q
 
-abbrev pub IsEnd : Parts → List ℕ → List Bool → ℕ → ℕ → List FoundGoal → Option ℕ → Option SpentQuery → Type 0
+abbrev pub IsEnd : Parts → List ℕ → List Bool → ℕ → ℕ → List FoundGoal → Option ℕ → Option StepQuery → Type 0
 IsEnd c sig known depth lemmas found upto spent = IsEndFrom c sig starts.Reset known depth lemmas found upto spent
 
-abbrev pub IsSweep : Parts → List ℕ → List Bool → ℕ → ℕ → Swept → Type 0
-IsSweep c sig known depth lemmas s = IsSearchFrom c sig starts.Reset known depth lemmas s
+abbrev pub IsSweep : Parts → List ℕ → List Bool → ℕ → ℕ → Bool → Swept → Type 0
+IsSweep c sig known depth lemmas keep s = IsSearchFrom c sig starts.Reset known depth lemmas keep s
 
 -- ---- a hop: from a state
-abbrev pub IsHopFrom : Parts → List ℕ → List Bool → List Bool → ℕ → ℕ → Swept → Type 0
-IsHopFrom c sig state known hop lemmas s = IsSearchFrom c sig (starts.State state) known hop lemmas s
+abbrev pub IsHopFrom : Parts → List ℕ → List Bool → List Bool → ℕ → ℕ → Bool → Swept → Type 0
+IsHopFrom c sig state known hop lemmas keep s = IsSearchFrom c sig (starts.State state) known hop lemmas keep s

@@ -8,5 +8,6 @@ mod steps;
 mod swept;
 
 pub use blocked::settled_goals;
+pub use frames::{first_frame, next_frame};
 pub use steps::{hop_from, sweep};
-pub use swept::{FoundGoal, FoundGoals, SpentQuery, Swept};
+pub use swept::{FoundGoal, FoundGoals, StepQueries, StepQuery, Swept};

@@ -15,19 +15,24 @@ pub struct FoundGoal {
 
 pub type FoundGoals = Sequence<FoundGoal>;
 
-/// The query of one step that ran out of lemmas, with the goals that it left out.
+/// The query of one step, with the goals that it left out, and the proof with which the solver answered it: that it has no
+/// model, or that it takes more lemmas than the budget has.
 #[derive(Debug, Drop)]
-pub struct SpentQuery {
+pub struct StepQuery {
     pub step: u32,
     pub blocked: Goals,
     pub proof: Proof,
 }
 
+pub type StepQueries = Sequence<StepQuery>;
+
 /// The goals that are new, in the order in which they were found. `upto` is the last step that was searched until
-/// nothing was new there; None where there is none. `spent` is the query at which the search stopped, if one ran out.
+/// nothing was new there; None where there is none. `refuted` has the last query of each such step, which has no model,
+/// where the caller asks for them. `spent` is the query at which the search stopped, if one ran out.
 #[derive(Debug, Drop)]
 pub struct Swept {
     pub found: FoundGoals,
     pub upto: Option<u32>,
-    pub spent: Option<SpentQuery>,
+    pub refuted: StepQueries,
+    pub spent: Option<StepQuery>,
 }

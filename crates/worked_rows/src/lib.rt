@@ -16,6 +16,8 @@ mod lrat_rows;
 #[cfg(test)]
 mod proved_rows;
 #[cfg(test)]
+mod refute_rows;
+#[cfg(test)]
 mod replay_rows;
 #[cfg(test)]
 mod rows;

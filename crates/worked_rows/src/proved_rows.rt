@@ -12,10 +12,10 @@ type Words = &'static [&'static [u8]];
 
 const COVER: Words = &[b"cover", b"a", b"b", b"--batches", b"0"];
 
-const RING: &[u8] = b"aag 2 0 2 0 0\n2 4 1\n4 2\n";
+pub(crate) const RING: &[u8] = b"aag 2 0 2 0 0\n2 4 1\n4 2\n";
 
 /// A latch that stays 0.
-const STUCK: &[u8] = b"aag 1 0 1 0 0\n2 2\n";
+pub(crate) const STUCK: &[u8] = b"aag 1 0 1 0 0\n2 2\n";
 
 /// What stands before a proof of one step, and the formula that the proof refutes.
 type Proof = (&'static [u8], &'static [u8]);
@@ -174,7 +174,7 @@ fn line_of(text: &[u8]) -> &[u8] {
 }
 
 /// Whether the command accepts the proof.
-fn is_accepted<R: Threads + Sync>(
+pub(crate) fn is_accepted<R: Threads + Sync>(
     rt: &R,
     alloc: Global,
     formula: &[u8],

@@ -13,7 +13,7 @@ use std::thread::Threads;
 use text_words::lines_at_most_bytes;
 
 /// A latch starts at 0 and takes what the same gates say, so no search is hard before step 1.
-const LATE_PARITIES: &[u8] =
+pub(crate) const LATE_PARITIES: &[u8] =
     b"aag 19 3 1 0 15\n2\n4\n6\n38 36\n8 2 4\n10 3 5\n12 9 11\n14 12 6\n16 13 7\n18 15 17\n\
     20 4 6\n22 5 7\n24 21 23\n26 24 2\n28 25 3\n30 27 29\n32 18 30\n34 19 31\n36 33 35\n";
 
@@ -141,7 +141,7 @@ const SPENT: [SpentRow; 4] = [
 ];
 
 /// What follows so many lines.
-fn after_lines(text: &[u8], count: u32) -> &[u8] {
+pub(crate) fn after_lines(text: &[u8], count: u32) -> &[u8] {
     let mut rest = text;
     for _ in 0..count {
         rest = after(rest, b"\n");

@@ -10,7 +10,7 @@ use std::test::Fail;
 use std::thread::Threads;
 
 /// A chain of six latches, which fill one after another.
-const CHAIN: &[u8] = b"aag 6 0 6 0 0\n2 1\n4 2\n6 4\n8 6\n10 8\n12 10\n";
+pub(crate) const CHAIN: &[u8] = b"aag 6 0 6 0 0\n2 1\n4 2\n6 4\n8 6\n10 8\n12 10\n";
 
 /// Two bits that count the steps at which the input is true.
 const COUNT: &[u8] =
@@ -21,7 +21,7 @@ const CONJUNCTION: &[u8] =
     b"aag 14 7 1 0 6\n2\n4\n6\n8\n10\n12\n14\n16 28\n18 2 4\n20 18 6\n22 20 8\n24 22 10\n26 24 12\n28 26 14\n";
 
 /// A chain of three latches behind an input that must be true.
-const HELD: &[u8] = b"aag 4 1 3 0 0 0 1\n2\n4 2\n6 4\n8 6\n2\n";
+pub(crate) const HELD: &[u8] = b"aag 4 1 3 0 0 0 1\n2\n4 2\n6 4\n8 6\n2\n";
 
 /// A latch that keeps its free start.
 const FREE: &[u8] = b"aag 1 0 1 0 0\n2 2 2\n";

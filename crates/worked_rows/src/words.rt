@@ -62,8 +62,8 @@ const NO_OPTIONS: &[Words] = &[
     &[b"cover", b"a", b"b", b"--rounds", b"1"],
     &[b"cover", b"a", b"b", b"--workers", b"0"],
     &[b"cover", b"a", b"b", b"--workers", b"9"],
-    &[b"cover", b"a", b"b", b"--proofs"],
     &[b"cover", b"a", b"b", b"--proofs", b"1"],
+    &[b"cover", b"a", b"b", b"--proofs", b"--proofs"],
     &[b"cover", b"a", b"b", b"--hop"],
     &[b"cover", b"a", b"b", b"--hop=4"],
     &[b"cover", b"a", b"b", b"--"],
@@ -218,6 +218,7 @@ const ALL_OPTIONS: Words = &[
     b"2",
     b"--rounds",
     b"0",
+    b"--proofs",
     b"--strength",
     b"1",
     b"--lemmas",
@@ -238,7 +239,7 @@ const ALL_OPTIONS: Words = &[
 
 #[test]
 fn all_options(rt: HostRuntime) -> Result<(), Fail> {
-    let head = b"ketch 1\nsize 0 1 1\noptions 9 8 3 4 5 6 7 1 0 0\n";
+    let head = b"ketch 1\nsize 0 1 1\noptions 9 8 3 4 5 6 7 1 0 1\n";
     assert!(rt; shows(&rt, rt.alloc(), ALL_OPTIONS, Status::Settled, head, b"")?);
     Ok(())
 }

@@ -5,7 +5,8 @@ use Rattle.run_report.specs.Ended.{invs_from}
 use Rattle.run_report.specs.Report.{is_unreachable}
 use Rattle.run_report.proofs.ReportForm.{report_form}
 use Rattle.run_report.proofs.Settling.{posts_below}
-use Rattle.run_report.proofs.Told.{IsComposed, report_tells}
+use Rattle.run_report.proofs.Told.{IsComposed}
+use Rattle.run_report.proofs.Whole.{report_tells}
 use Rattle.run_report.proofs.composing.compose.Goals as goal
 
 pub settle-blocks-requires-clause-goals : goal.settle-blocks-requires-clause-goals
@@ -29,6 +30,8 @@ composed c = record {
   invs_are = c.in_ok-sections.ensures.invs ∙ ap (λ (n : ℕ). invs_from n (inv_of c.args.ends.prover)) (c.unreachable_among-unreachable.ensures ∙ ap (count_by is_unreachable) c.as_slice.ensures.value);
   spents = c.in_ok-sections.sections.spents;
   spents_are = c.in_ok-sections.ensures.spents;
+  refutes = c.in_ok-sections.sections.refutes;
+  refutes_are = c.in_ok-sections.ensures.refutes;
   holds = rw (sym c.in_ok-history.ensures) c.report_of.ensures.holds;
 }
 

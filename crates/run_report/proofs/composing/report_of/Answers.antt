@@ -29,7 +29,7 @@ returns-clause-holds c = record {
   invs = refl;
   goals = c.from_vec.ensures;
   spents = refl;
-  refutes = c.new.ensures;
+  refutes = refl;
   reached = c.reached_among-reached.ensures ∙ ap (count_by is_reached) c.as_slice.ensures.value;
   unreachable = c.requires.unreachable;
   unsettled = open_are c.args.blocks.items c.len-goals.result c.reached_among-reached.result c.args.unreachable (let size : length c.args.blocks.items ≡ c.len-goals.result = omega (arith, c.len-goals.ensures) in size)

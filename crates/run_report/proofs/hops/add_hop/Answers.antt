@@ -1,12 +1,13 @@
-use Rattle.std.proofs.Common.{◌≡◌, ◌++◌, ℕ, Bool, List, length, map, All, sym, ap, subst, ◌∙◌, Option}
-use Rattle.std.specs.Prelude.{option_map}
+use Rattle.std.proofs.Common.{◌≡◌, ◌++◌, ℕ, Bool, List, length, map, All, sym, ap, subst, ◌∙◌}
 use Rattle.aig_model.specs.declared.parts.Parts.{Parts}
-use Rattle.report_text.specs.declared.report.Block.{Block}
 use Rattle.sim_batch.specs.Seeds.{SeedState}
 use Rattle.sweep_search.specs.Sweep.{IsFirstFrom, IsHopFrom}
 use Rattle.sweep_search.specs.declared.swept.FoundGoal.{FoundGoal}
 use Rattle.unroll.specs.declared.start.Start.TheVariants.{State}
-use Rattle.run_report.specs.Batches.{AddsHop, hop_block, hop_finding}
+use Rattle.run_report.specs.Batches.{AddsHop, hop_finding}
+use Rattle.run_report.specs.Searches.{blocks_of}
+use Rattle.run_report.specs.declared.ends.SearchBlocks.{SearchBlocks}
+use Rattle.run_report.specs.declared.searches.Search.TheVariants as searches
 use Rattle.run_report.proofs.Hopping.{IsHopped, hop_whole, seed_of_circuit, seed_size}
 use Rattle.run_report.proofs.hops.add_hop.Goals as goal
 
@@ -31,13 +32,14 @@ returns c =
     let seed = c.args.seed.now in
     let s = c.in_ok-found.field-0 in
     let after : c.add_found.new.findings ≡ c.args.findings.now ++ map (hop_finding c.args.batch seed) s.found = cc c.in_ok-add_found.ensures in
-    let spent : c.hop_block.result ≡ option_map (hop_block c.args.batch) s.spent = cc c.hop_block.ensures in
+    let blocks : c.in_ok-blocks.blocks ≡ blocks_of (searches.Hop c.args.batch) s.refuted s.spent = cc c.in_ok-blocks.ensures in
     let hopped : IsHopped circuit sig o c.args.batch seed c.in_ok-known.known c.args.findings.now c.add_found.new.findings s = record {
       inside = c.requires.batch;
       seed_of = c.requires.seed;
       known_is = record { size = c.in_ok-known.ensures.size; marked = c.in_ok-known.ensures.marks };
-      hop = subst (λ (state : List Bool). IsHopFrom circuit sig state c.in_ok-known.known o.hop o.lemmas s) c.state.ensures c.in_ok-found.ensures;
+      room = c.requires.room;
+      hop = subst (λ (state : List Bool). IsHopFrom circuit sig state c.in_ok-known.known o.hop o.lemmas o.proofs s) c.state.ensures c.in_ok-found.ensures;
       after = after;
     } in
-    subst (λ (x : Option Block). AddsHop circuit sig o c.args.batch seed c.args.findings.now c.add_found.new.findings x) (sym spent)
+    subst (λ (x : SearchBlocks). AddsHop circuit sig o c.args.batch seed c.args.findings.now c.add_found.new.findings x) (sym blocks)
     (hop_whole circuit sig o c.args.batch seed c.in_ok-known.known c.args.findings.now c.add_found.new.findings s hopped)

@@ -13,7 +13,7 @@ marks-requires c = found_below c.args.circuit.now c.args.signals.now.lits c.args
 
 pub run_batches-requires-clause-goals : goal.run_batches-requires-clause-goals
 run_batches-requires-clause-goals c =
-    let first : IsRun c.args.circuit.now c.args.signals.now.lits c.args.options.now c.in_ok-known.known c.in_ok-findings.field-0.findings c.in_ok-proved.field-0.findings c.in_ok-findings.field-0.spent c.in_ok-proved.field-0.end = record {
+    let first : IsRun c.args.circuit.now c.args.signals.now.lits c.args.options.now c.in_ok-known.known c.in_ok-findings.field-0.findings c.in_ok-proved.field-0.findings c.in_ok-findings.field-0.sweep c.in_ok-proved.field-0.end = record {
       circuit = c.is_well_formed.ensures;
       signals = subst (λ (p : Parts). IsSignals p c.args.signals.now.lits) c.requires.signals c.is_well_formed-2.ensures;
       found = c.in_ok-findings.ensures.found;
@@ -23,11 +23,11 @@ run_batches-requires-clause-goals c =
       proven = c.in_ok-proved.ensures;
     } in
     subst (λ (fs : List Finding). All (λ goal. goal < 2 ^ length c.args.signals.now.lits) (goals_of fs)) (sym c.in_ok-add_findings.ensures)
-    (run_below c.args.circuit.now c.args.signals.now.lits c.args.options.now c.in_ok-known.known c.in_ok-findings.field-0.findings c.in_ok-proved.field-0.findings c.in_ok-findings.field-0.spent c.in_ok-proved.field-0.end first)
+    (run_below c.args.circuit.now c.args.signals.now.lits c.args.options.now c.in_ok-known.known c.in_ok-findings.field-0.findings c.in_ok-proved.field-0.findings c.in_ok-findings.field-0.sweep c.in_ok-proved.field-0.end first)
 
 -- what is known after all jobs
 abbrev ends_of : (c : goal.After-drop-known-inside-2) → Ends
-ends_of c = record { sweep = c.in_ok-findings.field-0.spent; batches = c.in_ok-batches.batches; prover = c.in_ok-proved.field-0.end }
+ends_of c = record { sweep = c.in_ok-findings.field-0.sweep; batches = c.in_ok-batches.batches; prover = c.in_ok-proved.field-0.end }
 
 ran : (c : goal.After-drop-known-inside-2) → IsRunWhole c.args.circuit.now c.args.signals.now.lits c.args.options.now c.in_ok-known.known c.in_ok-findings.field-0.findings c.in_ok-proved.field-0.findings c.run_batches.new.findings (ends_of c)
 ran c = record {

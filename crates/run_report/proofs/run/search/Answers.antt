@@ -1,10 +1,11 @@
-use Rattle.std.proofs.Common.{◌≡◌, ◌≢◌, ◌++◌, List, map, sym, subst, All, AllPairs, Option, None}
-use Rattle.std.specs.Prelude.{option_map}
-use Rattle.report_text.specs.declared.report.Block.{Block}
+use Rattle.std.proofs.Common.{◌≡◌, ◌≢◌, ◌++◌, List, map, sym, subst, All, AllPairs, None}
+use Rattle.run_report.specs.declared.ends.SearchBlocks.{SearchBlocks}
 use Rattle.run_report.specs.declared.posts.Finding.{Finding}
+use Rattle.run_report.specs.declared.searches.Search.TheVariants as searches
 use Rattle.run_report.specs.Posts.{IsFinding, entries_of, posts_of}
 use Rattle.run_report.specs.Ends.{IsSearchTold}
-use Rattle.run_report.specs.Run.{goals_of, sweep_block, sweep_finding}
+use Rattle.run_report.specs.Run.{goals_of, sweep_finding}
+use Rattle.run_report.specs.Searches.{blocks_of}
 use Rattle.run_report.proofs.Searching.{IsSearched, each_found, once_all, searched_told, zeros_below}
 use Rattle.run_report.proofs.run.search.Goals as goal
 
@@ -18,14 +19,15 @@ searched c = record {
   walked = c.in_ok-visits.ensures;
   zip = c.in_ok-findings.ensures;
   marks = c.in_ok-known.ensures.marks;
+  room = c.requires.room;
   swept = c.in_ok-found.ensures;
 }
 
 findings_are : (c : goal.After-drop-visits-inside-2) → c.add_found.new.findings ≡ c.in_ok-findings.findings ++ map sweep_finding c.in_ok-found.field-0.found
-findings_are c = cc (c.in_ok-add_found.ensures, c.in_ok-found.found-is)
+findings_are c = cc c.in_ok-add_found.ensures
 
-spent_is : (c : goal.After-drop-visits-inside-2) → c.sweep_block.result ≡ option_map sweep_block c.in_ok-found.field-0.spent
-spent_is c = cc (c.sweep_block.ensures, c.in_ok-found.spent-is)
+blocks_are : (c : goal.After-drop-visits-inside-2) → c.in_ok-blocks.blocks ≡ blocks_of searches.Sweep c.in_ok-found.field-0.refuted c.in_ok-found.field-0.spent
+blocks_are c = cc c.in_ok-blocks.ensures
 
 pub returns-clause-found : goal.returns-clause-found
 returns-clause-found c =
@@ -39,6 +41,6 @@ returns-clause-once c =
 
 pub returns-clause-told : goal.returns-clause-told
 returns-clause-told c =
-    subst (λ (fs : List Finding). IsSearchTold c.args.circuit.now c.args.signals.now.lits c.args.options.now (entries_of (posts_of fs)) c.sweep_block.result) (sym (findings_are c))
-    (subst (λ (x : Option Block). IsSearchTold c.args.circuit.now c.args.signals.now.lits c.args.options.now (entries_of (posts_of (c.in_ok-findings.findings ++ map sweep_finding c.in_ok-found.field-0.found))) x) (sym (spent_is c))
+    subst (λ (fs : List Finding). IsSearchTold c.args.circuit.now c.args.signals.now.lits c.args.options.now (entries_of (posts_of fs)) c.in_ok-blocks.blocks) (sym (findings_are c))
+    (subst (λ (x : SearchBlocks). IsSearchTold c.args.circuit.now c.args.signals.now.lits c.args.options.now (entries_of (posts_of (c.in_ok-findings.findings ++ map sweep_finding c.in_ok-found.field-0.found))) x) (sym (blocks_are c))
     (searched_told c.args.circuit.now c.args.signals.now.lits c.args.options.now c.in_ok-visits.visits c.in_ok-findings.findings c.in_ok-known.known c.in_ok-found.field-0 (searched c)))

@@ -1,9 +1,10 @@
-use Rattle.std.proofs.Common.{◌≡◌, ◌+◌, ◌^◌, List, ◌∷◌, [], ◌++◌, length, sym, ap, subst, ◌∙◌, arith}
+use Rattle.std.proofs.Common.{◌≡◌, ◌+◌, ◌^◌, List, ◌∷◌, [], ◌++◌, length, refl, sym, ap, subst, ◌∙◌, arith}
 use Rattle.std.proofs.lemmas.List.{length_push}
 use Rattle.hop_search.specs.Answers.{IsHop}
 use Rattle.hop_search.specs.declared.hop.Hop.{Hop}
-use Rattle.sweep_search.specs.Steps.{IsSearched}
+use Rattle.sweep_search.specs.Steps.{AddsAt, IsSearched}
 use Rattle.sweep_search.specs.declared.swept.FoundGoal.{FoundGoal}
+use Rattle.sweep_search.proofs.Queries.{adds_one, refuted_now}
 use Rattle.sweep_search.proofs.Searched.{found_below, blocked_below, all_settled, few_found, some_left, searched_new, searched_whole, hop_at, still_framed}
 use Rattle.sweep_search.proofs.search.search_step.Goals as goal
 
@@ -39,8 +40,9 @@ returns-in-NoMore-clause-end c =
     some_left circuit sig start c.args.known.now c.queries.found blocked c.requires.goals c.queries.invariant.searched.news c.in_ok-blocked.ensures c.len.ensures.rising
     (λ full. c.if-len-goals.false (c.len.ensures.value ∙ (full ∙ sym c.goals-goals.ensures))) in (
       c.queries.invariant.searched.near,
-      searched_whole circuit sig start c.args.known.now c.args.step c.args.lemmas c.queries.found blocked c.in-NoMore.field-0 c.queries.invariant.searched c.in_ok-blocked.ensures none left,
+      searched_whole circuit sig start c.args.known.now c.args.step c.args.lemmas c.queries.found blocked c.in-NoMore.proof c.queries.invariant.searched c.in_ok-blocked.ensures none left,
       left,
+      refuted_now circuit sig start c.args.known.now c.queries.found c.args.step c.args.lemmas blocked c.in-NoMore.proof c.queries.invariant.searched.near c.in_ok-blocked.ensures c.len.ensures.rising none,
     )
 
 pub queries-preserved : goal.queries-preserved
@@ -54,9 +56,11 @@ queries-preserved c =
     let P : Hop → Type 0 = λ h. IsHop circuit sig start step blocked c.args.lemmas h in
     let hop = hop_at circuit sig start step blocked c.args.lemmas c.queries.framed c.in_ok-goal.field-0 c.queries.invariant.frames c.in_ok-goal.ensures.answer in
     let new = subst P c.in-New.is hop in
+    let f : FoundGoal = record { goal = c.in-New.goal; step = step; trace = c.in-New.trace } in
     let more = searched_new circuit sig start known step c.queries.found blocked c.in-New.goal c.in-New.trace c.queries.invariant.searched c.in_ok-blocked.ensures new in
     record {
       searched = subst (λ (fs : List FoundGoal). IsSearched circuit sig start known step fs) (sym c.in_ok-push-in-New.ensures.ok) more;
+      added = subst (AddsAt step c.args.found.now) (sym c.in_ok-push-in-New.ensures.ok) (adds_one step c.args.found.now c.queries.found f refl c.queries.invariant.added);
       frames = still_framed circuit start step c.queries.framed c.next_new_framed.new.framed c.queries.invariant.frames c.in_ok-goal.ensures.frames;
     }
 
