@@ -1,0 +1,11 @@
+pub mod Asking
+pub mod Bounding
+pub mod Entries
+pub mod FirstKinds
+pub mod Items
+pub mod Order
+pub mod Passing
+pub mod Refuting
+pub mod Supported
+pub mod Walking
+pub mod Ways

@@ -1,0 +1,13 @@
+pub mod Blocks
+pub mod Bounds
+pub mod Conditions
+pub mod Goals
+pub mod Invariants
+pub mod Known
+pub mod Order
+pub mod Queries
+pub mod Refutes
+pub mod Seeds
+pub mod Sizes
+pub mod Supports
+pub mod Walks
