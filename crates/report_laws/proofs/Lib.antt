@@ -1,0 +1,10 @@
+pub mod GoalBlocks
+pub mod GoalBounds
+pub mod InvBlocks
+pub mod LatchCandidates
+pub mod RefutedSearches
+pub mod SeedLines
+pub mod Settled
+pub mod SpentQueries
+pub mod Steps
+pub mod Upheld
