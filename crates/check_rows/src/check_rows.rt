@@ -720,12 +720,8 @@ fn answer_of(alloc: Global, case: &Case, text: &[u8]) -> Option<Result<(), Check
 }
 
 fn is_refused(alloc: Global, row: &Row) -> bool {
-    let (case, .., part, at, kind) = row;
-    let wanted = CheckFault::At {
-        part: *part,
-        at: *at,
-        kind: *kind,
-    };
+    let (case, .., part, at, kind) = *row;
+    let wanted = CheckFault::At { part, at, kind };
     match text_of(alloc, row) {
         Ok(text) => answer_of(alloc, case, &text) == Some(Err(wanted)),
         Err(_) => false,
